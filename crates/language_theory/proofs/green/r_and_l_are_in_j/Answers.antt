@@ -1,0 +1,8 @@
+use Rattle.language_theory.proofs.Ideals.{r_in_j, l_in_j}
+use Rattle.language_theory.proofs.green.r_and_l_are_in_j.Goals as goal
+
+pub returns-clause-right : goal.returns-clause-right
+returns-clause-right g c k q = r_in_j k g.R.Relation.same q
+
+pub returns-clause-left : goal.returns-clause-left
+returns-clause-left g c k q = l_in_j k g.R.Relation.same q

@@ -1,0 +1,18 @@
+-- A language is a predicate on words. Its words are those over k letters for which it holds.
+use Rattle.std.specs.Prelude.{◌≡◌, ◌⊎◌, ℕ, List}
+use Rattle.language_theory.specs.Words.{Over, ◌⊏◌}
+
+-- exactly one of two facts holds
+abbrev pub OneOf : Type 0 → Type 0 → Type 0
+OneOf P Q = (P × ¬ Q) ⊎ (¬ P × Q)
+
+-- x is the one value for which P holds
+pub record IsOnly {X : Type 0} (P : X → Type 0) (x : X) : Type 0 where
+  pub holds : P x
+  pub only : (y : X) → P y → y ≡ x
+
+-- w is the shortlex-least of the words over k letters for which P holds
+pub record IsLeastWord (k : ℕ) (P : List ℕ → Type 0) (w : List ℕ) : Type 0 where
+  pub over : Over k w
+  pub holds : P w
+  pub least : (v : List ℕ) → Over k v → P v → ¬ (v ⊏ w)

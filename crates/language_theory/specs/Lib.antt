@@ -1,0 +1,14 @@
+pub mod Words
+pub mod Languages
+pub mod Automaton
+pub mod Runs
+pub mod Representatives
+pub mod Congruence
+pub mod ShortlexGraph
+pub mod Nerode
+pub mod Products
+pub mod Presentation
+pub mod Green
+pub mod Separation
+pub mod Powers
+pub mod Examples

@@ -1,0 +1,12 @@
+//! What a law over every language or every relation is stated at: a type with no more than that language or relation.
+ghost use Rattle.std.specs.Prelude.{ℕ, List};
+
+/// A language: the words for which `has` holds.
+pub trait Language {
+    ghost has: { List ℕ → Type 0 };
+}
+
+/// A relation between words.
+pub trait Relation {
+    ghost same: { List ℕ → List ℕ → Type 0 };
+}
