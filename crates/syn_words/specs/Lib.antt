@@ -1,0 +1,4 @@
+pub mod Alphabet
+pub mod Nfa
+pub mod Targets
+pub mod Acceptance

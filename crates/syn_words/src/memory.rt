@@ -1,0 +1,20 @@
+//! The one fault of a call that only memory can fail.
+use std::alloc::{AllocError, AllocFailed};
+use thiserror::Error;
+
+/// The system gave no memory.
+#[derive(Clone, Copy, Debug, PartialEq, Eq, Error)]
+#[error("out of memory")]
+pub struct Memory;
+
+impl From<AllocError> for Memory {
+    fn from(_fault: AllocError) -> Memory {
+        Memory
+    }
+}
+
+impl<T: Drop> From<AllocFailed<T>> for Memory {
+    fn from(_fault: AllocFailed<T>) -> Memory {
+        Memory
+    }
+}
