@@ -1,0 +1,11 @@
+pub mod Places
+pub mod BreadthFirst
+pub mod Searching
+pub mod Whole
+pub mod Interning
+pub mod Tables
+pub mod Totals
+pub mod Refining
+pub mod Rounds
+pub mod Firsts
+pub mod Listing
