@@ -1,0 +1,5 @@
+pub mod Between
+pub mod Tables
+pub mod Combining
+pub mod Nodes
+pub mod Built

@@ -1,0 +1,21 @@
+//! Expressions as they are written, and their position automata.
+#![tactic(auto)]
+
+mod evaluation;
+mod expr;
+mod fault;
+mod frames;
+mod glushkov;
+mod marks;
+mod parts;
+mod polish;
+mod reader;
+mod reading;
+mod sign;
+#[cfg(test)]
+mod tests;
+
+pub use expr::Expr;
+pub use fault::ExprFault;
+pub use glushkov::positions;
+pub use reading::read_expr;

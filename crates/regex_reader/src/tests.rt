@@ -1,0 +1,111 @@
+//! Texts whose answers are known from outside, and small position automata.
+ghost use Rattle.std.specs.Prelude.{◌≤◌, length};
+
+use crate::polish::polish;
+use crate::{Expr, ExprFault, positions, read_expr};
+use std::alloc::Global;
+use syn_words::{Alphabet, Memory, Nfa};
+
+/// The alphabet of a and b.
+fn ab(alloc: Global) -> Result<Alphabet, Memory> {
+    Alphabet::from_text(alloc, b"ab").map_err(|_| Memory)
+}
+
+/// The number of nodes that a text over a and b spells, or its fault.
+fn count_nodes(alloc: Global, text: &[u8]) -> Result<usize, ExprFault> {
+    let expr = read_expr(alloc, text, &ab(alloc)?)?;
+    Ok(polish(alloc, &expr)?.len())
+}
+
+/// The position automaton of a text over a and b.
+fn automaton(alloc: Global, text: &[u8]) -> Result<Nfa, ExprFault> {
+    let alphabet = ab(alloc)?;
+    let expr = read_expr(alloc, text, &alphabet)?;
+    Ok(positions(alloc, &expr, alphabet.len())?)
+}
+
+#[test]
+fn refuses_texts(rt: HostRuntime) {
+    let alloc = rt.alloc();
+    for (text, at) in [
+        ("", 0u64),
+        ("*a", 0),
+        ("a|", 2),
+        ("(a", 2),
+        ("()", 1),
+        ("a)", 1),
+        ("A", 0),
+        ("a b ++ | ) c", 9),
+    ] {
+        let fault = count_nodes(alloc, text.as_bytes());
+        assert!(rt;
+            matches!(fault, Err(ExprFault::Unexpected { at: place }) if place == at),
+            "at {text}"
+        );
+    }
+    let fault = count_nodes(alloc, b"(ac)*");
+    assert!(rt; matches!(fault, Err(ExprFault::UnknownLetter { at: 2 })));
+}
+
+#[test]
+fn counts_nodes(rt: HostRuntime) -> Result<(), ExprFault> {
+    let alloc = rt.alloc();
+    for (text, nodes) in [
+        ("a**", 3usize),
+        ("a b", 3),
+        ("(a|b)*\t", 4),
+        ("a+b?|0", 7),
+        ("1", 1),
+    ] {
+        assert_eq!(rt; count_nodes(alloc, text.as_bytes())?, nodes, "at {text}");
+    }
+    Ok(())
+}
+
+#[test]
+fn keeps_the_limits(rt: HostRuntime) -> Result<(), ExprFault> {
+    let alloc = rt.alloc();
+    let letters = vec![in alloc; b'a'; 2001usize]?;
+    assert_eq!(rt; count_nodes(alloc, &letters[..2000])?, 3999);
+    assert!(rt;
+        matches!(
+            count_nodes(alloc, &letters),
+            Err(ExprFault::TooLarge { at: 2000 })
+        )
+    );
+    let mut deep = vec![in alloc; b'('; 201usize]?;
+    assert!(rt;
+        matches!(
+            count_nodes(alloc, &deep),
+            Err(ExprFault::TooDeep { at: 200 })
+        )
+    );
+    deep.truncate(200);
+    deep.push(b'a')?;
+    for _ in 0..200u32 {
+        deep.push(b')')?;
+    }
+    assert_eq!(rt; count_nodes(alloc, &deep)?, 1);
+    let mut stars = vec![in alloc; b'*'; 4000usize]?;
+    stars[0] = b'a';
+    assert_eq!(rt; count_nodes(alloc, &stars)?, 4000);
+    Ok(())
+}
+
+#[test]
+fn ab_star(rt: HostRuntime) -> Result<(), ExprFault> {
+    let nfa = automaton(rt.alloc(), b"(ab)*")?;
+    assert_eq!(rt; nfa.states(), 3);
+    assert_eq!(rt; nfa.step_count(), 3);
+    assert!(rt; nfa.has_step(0, 0, 1) && nfa.has_step(1, 1, 2) && nfa.has_step(2, 0, 1));
+    Ok(())
+}
+
+#[test]
+fn dead_sign(rt: HostRuntime) -> Result<(), ExprFault> {
+    let nfa = automaton(rt.alloc(), b"a0|b")?;
+    assert_eq!(rt; nfa.states(), 3);
+    assert_eq!(rt; nfa.step_count(), 1);
+    assert!(rt; nfa.has_step(0, 1, 2));
+    Ok(())
+}
