@@ -1,0 +1,13 @@
+pub mod TextLines
+pub mod FieldRuns
+pub mod Digits
+pub mod Skips
+pub mod Letters
+pub mod Expressions
+pub mod PartLines
+pub mod FaultFold
+pub mod PartFaults
+pub mod WellSpelled
+pub mod SameAutomata
+pub mod Refusals
+pub mod SourceLaws

@@ -1,0 +1,59 @@
+-- Sources and refusals are determined by their bytes, and by the first of them alone where they are too many.
+use Rattle.std.proofs.Common.{◌≡◌, ◌<◌, ◌≤◌, ℕ, ◌+◌, List, [], ◌∷◌, length, take, sym, ap, ◌∙◌, arith, subst}
+use Rattle.std.specs.Prelude.{Option, Some, None}
+use Rattle.std.proofs.lemmas.Bool.{both_ways}
+use Rattle.std.proofs.lemmas.List.{length-take, take_all}
+use Rattle.expression_theory.specs.Scan.{classes}
+use Rattle.expression_theory.proofs.Texts.{one_tree}
+use Rattle.automaton_file.specs.LineText.{text_lines, parts, behind_first}
+use Rattle.automaton_file.specs.FileText.{Lines, letters_in, BodyText, OfAutomaton, OfExpression, SpellsBody, SpellsSource, most_bytes, SourceText, IsSource, IsRefusal, too_long, bad_line, missing_part}
+use Rattle.automaton_file.proofs.Refusals.{answer, same_pair, refusal_answer, source_answer}
+
+one_body : (letters body : List ℕ) (more : Lines) (b c : BodyText) → SpellsBody letters body more b → SpellsBody letters body more c → b ≡ c
+one_body letters body more (OfAutomaton m) (OfAutomaton n) h k = ap OfAutomaton (h.1 ∙ sym k.1)
+one_body letters body more (OfAutomaton m) (OfExpression t) h k = absurd (both_ways _ h.0 k.0)
+one_body letters body more (OfExpression s) (OfAutomaton n) h k = absurd (both_ways _ k.0 h.0)
+one_body letters body more (OfExpression s) (OfExpression t) h k = ap OfExpression (one_tree (classes letters (behind_first body)) s t h.1 k.1)
+
+same_source : (s t : SourceText) → s.letters ≡ t.letters → s.body ≡ t.body → s ≡ t
+same_source s t h k = ap (λ (letters : List ℕ). record { letters = letters; body = s.body }) h ∙ ap (λ (body : BodyText). record { letters = t.letters; body = body }) k
+
+one_spelled : (parts : Lines) (s t : SourceText) → SpellsSource parts s → SpellsSource parts t → s ≡ t
+one_spelled [] s t h k = absurd h
+one_spelled (header ∷ []) s t h k = absurd h
+one_spelled (header ∷ alphabet ∷ []) s t h k = absurd h
+one_spelled (header ∷ alphabet ∷ body ∷ more) s t h k = same_source s t (h.0 ∙ sym k.0) (one_body (letters_in alphabet) body more s.body t.body h.1 k.1)
+
+pub one_source : (bytes : List ℕ) (s t : SourceText) → IsSource bytes s → IsSource bytes t → s ≡ t
+one_source bytes s t h k = one_spelled (parts (text_lines bytes)) s t h.same k.same
+
+pub one_refusal : (bytes : List ℕ) (at code line other : ℕ) → IsRefusal bytes at code → IsRefusal bytes line other → (at ≡ line) × (code ≡ other)
+one_refusal bytes at code line other h k =
+    same_pair (at, code) (line, other) (sym (refusal_answer bytes at code h) ∙ refusal_answer bytes line other k)
+
+no_answer : (o : Option (ℕ × ℕ)) (x : ℕ × ℕ) → o ≡ None → o ≡ Some x → ⊥
+no_answer None x e h = absurd (cc)
+no_answer (Some y) x e h = absurd (cc)
+
+pub refusal_spells_none : (bytes : List ℕ) (s : SourceText) (at code : ℕ) → IsSource bytes s → ¬ IsRefusal bytes at code
+refusal_spells_none bytes s at code h k =
+    no_answer (answer bytes) (at, code) (source_answer bytes s h) (refusal_answer bytes at code k)
+
+-- a short front is all
+pub short_front : (n : ℕ) (bytes : List ℕ) → length (take (n + 1) bytes) ≤ n → take (n + 1) bytes ≡ bytes
+short_front n bytes h = take_all (n + 1) bytes (omega (arith, length-take (n + 1) bytes))
+
+pub front_spells : (bytes : List ℕ) (s : SourceText) → IsSource (take (most_bytes + 1) bytes) s → take (most_bytes + 1) bytes ≡ bytes
+front_spells bytes s h = short_front most_bytes bytes h.short
+
+-- a long front is of a long text
+long_front : (n : ℕ) (bytes : List ℕ) → n < length (take (n + 1) bytes) → n < length bytes
+long_front n bytes h = omega (arith, length-take (n + 1) bytes)
+
+refused_whole : (bytes front : List ℕ) (at code : ℕ) → (length front ≤ most_bytes → front ≡ bytes) → (most_bytes < length front → most_bytes < length bytes) → IsRefusal front at code → IsRefusal bytes at code
+refused_whole bytes front at code short long (too_long h) = too_long (long h)
+refused_whole bytes front at code short long (bad_line h k) = subst (λ (bs : List ℕ). IsRefusal bs at code) (short h) (bad_line h k)
+refused_whole bytes front at code short long (missing_part h k) = subst (λ (bs : List ℕ). IsRefusal bs at code) (short h) (missing_part h k)
+
+pub front_refused : (bytes : List ℕ) (at code : ℕ) → IsRefusal (take (most_bytes + 1) bytes) at code → IsRefusal bytes at code
+front_refused bytes at code r = refused_whole bytes (take (most_bytes + 1) bytes) at code (short_front most_bytes bytes) (long_front most_bytes bytes) r

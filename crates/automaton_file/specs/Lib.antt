@@ -1,0 +1,5 @@
+pub mod LineText
+pub mod ExprText
+pub mod FileText
+pub mod Reading
+pub mod Copies

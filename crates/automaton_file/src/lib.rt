@@ -1,0 +1,21 @@
+//! Files that hold a source: an alphabet, and an automaton or an expression over it.
+#![tactic(auto)]
+
+mod copies;
+mod fields;
+mod laws;
+mod lines;
+mod parts;
+mod reading;
+mod sources;
+#[cfg(test)]
+mod tests;
+
+pub use copies::body_nfa;
+pub use laws::{
+    one_automaton, one_byte_too_many_is_enough, one_refusal, source_is_determined,
+    spelled_or_refused,
+};
+pub use lines::{LineGot, next_line};
+pub use reading::read_file;
+pub use sources::{Body, FileFault, Refusal, Source};
