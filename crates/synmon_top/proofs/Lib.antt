@@ -1,0 +1,10 @@
+mod Causes
+mod Endings
+mod Lines
+mod Parts
+mod Printing
+mod Reports
+mod Saying
+mod Telling
+mod Unique
+mod Sources

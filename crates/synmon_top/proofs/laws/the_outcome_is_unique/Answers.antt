@@ -1,0 +1,5 @@
+use Rattle.synmon_top.proofs.Unique.{one_outcome}
+use Rattle.synmon_top.proofs.laws.the_outcome_is_unique.Goals as goal
+
+pub returns : goal.returns
+returns c = one_outcome
