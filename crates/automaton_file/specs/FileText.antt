@@ -268,7 +268,7 @@ pub record IsSameAutomaton (m n : Automaton) : Type 0 where
 
 -- the automaton of a body over so many letters: the file's, or the position automaton of its expression
 abbrev pub IsBodyAutomaton : ℕ → BodyText → Automaton → Type 0
-IsBodyAutomaton letters (OfAutomaton n) m = IsSameAutomaton m n
+IsBodyAutomaton letters (OfAutomaton n) m = m ≡ n
 IsBodyAutomaton letters (OfExpression t) m = IsPositions t letters m
 
 -- an expression has a position automaton over so many letters

@@ -2,4 +2,3 @@ pub mod LineText
 pub mod ExprText
 pub mod FileText
 pub mod Reading
-pub mod Copies

@@ -1,7 +1,7 @@
 //! Files that hold a source: an alphabet, and an automaton or an expression over it.
 #![tactic(auto)]
 
-mod copies;
+mod automata;
 mod fields;
 mod laws;
 mod lines;
@@ -11,7 +11,7 @@ mod sources;
 #[cfg(test)]
 mod tests;
 
-pub use copies::body_nfa;
+pub use automata::body_nfa;
 pub use laws::{
     one_automaton, one_byte_too_many_is_enough, one_refusal, source_is_determined,
     spelled_or_refused,

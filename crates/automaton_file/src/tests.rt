@@ -144,7 +144,7 @@ fn reads_sources(rt: HostRuntime) -> Result<(), Fail> {
         let source = read_file(rt.alloc(), text)?;
         let nfa = body_nfa(rt.alloc(), &source)?;
         assert_eq!(rt; nfa.states(), *states);
-        assert_eq!(rt; nfa.step_count(), *steps);
+        assert_eq!(rt; nfa.steps().len(), *steps);
     }
     Ok(())
 }

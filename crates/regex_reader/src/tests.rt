@@ -96,7 +96,7 @@ fn keeps_the_limits(rt: HostRuntime) -> Result<(), ExprFault> {
 fn ab_star(rt: HostRuntime) -> Result<(), ExprFault> {
     let nfa = automaton(rt.alloc(), b"(ab)*")?;
     assert_eq!(rt; nfa.states(), 3);
-    assert_eq!(rt; nfa.step_count(), 3);
+    assert_eq!(rt; nfa.steps().len(), 3);
     assert!(rt; nfa.has_step(0, 0, 1) && nfa.has_step(1, 1, 2) && nfa.has_step(2, 0, 1));
     Ok(())
 }
@@ -105,7 +105,7 @@ fn ab_star(rt: HostRuntime) -> Result<(), ExprFault> {
 fn dead_sign(rt: HostRuntime) -> Result<(), ExprFault> {
     let nfa = automaton(rt.alloc(), b"a0|b")?;
     assert_eq!(rt; nfa.states(), 3);
-    assert_eq!(rt; nfa.step_count(), 1);
+    assert_eq!(rt; nfa.steps().len(), 1);
     assert!(rt; nfa.has_step(0, 1, 2));
     Ok(())
 }

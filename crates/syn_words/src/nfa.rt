@@ -54,6 +54,20 @@ impl Nfa {
         })
     }
 
+    /// An equal automaton of its own.
+    pub fn copy(&self) -> Result<Nfa, Memory>
+        ensures same { IfOk result (λ m. m ≡ self.now) }
+        ensures sized { IfOk result (λ m. IsSized m) }
+    {
+        let alloc = self.allocator();
+        Ok(Nfa {
+            letters: self.letters,
+            initial: Vec::from_slice(alloc, self.initial.as_slice())?,
+            finals: Vec::from_slice(alloc, self.finals.as_slice())?,
+            steps: self.steps.clone()?,
+        })
+    }
+
     /// The number of states.
     pub fn states(&self) -> u32
         ensures states { result ≡ self.now.states }
@@ -142,23 +156,5 @@ impl Nfa {
     /// The allocator that the automaton keeps.
     pub(crate) fn allocator(&self) -> Global {
         *self.finals.allocator()
-    }
-
-    /// The number of steps.
-    pub fn step_count(&self) -> usize
-        ensures { result ≡ length self.now.steps }
-    {
-        self.steps.len()
-    }
-
-    /// The step at a place, counted from 0 in the order in which the steps came. Condition: `place < step_count`.
-    pub fn step_at(&self, place: usize) -> Step
-        requires { place < length self.now.steps }
-        ensures step { slice_get self.now.steps place ≡ Some result }
-        ensures from { result.0 < self.now.states }
-        ensures letter { result.1 < self.now.letters }
-        ensures to { result.2 < self.now.states }
-    {
-        self.steps[place]
     }
 }

@@ -104,7 +104,7 @@ fn accepts_words(rt: HostRuntime) -> Result<(), Fail> {
 #[test]
 fn lays_out_targets(rt: HostRuntime) -> Result<(), Fail> {
     let nfa = two_starts(rt.alloc())?;
-    assert_eq!(rt; nfa.step_count(), 5);
+    assert_eq!(rt; nfa.steps().len(), 5);
     let targets = Targets::of(rt.alloc(), &nfa)?;
     let rows: [[&[u32]; 2]; 5] = [
         [&[2], &[]],

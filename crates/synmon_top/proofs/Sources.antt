@@ -1,5 +1,5 @@
 -- The automaton of a source stands for the source: it has the source's language, and the source's sets of states.
-use Rattle.std.proofs.Common.{◌≡◌, ℕ, List, length, sym, ◌∙◌, subst}
+use Rattle.std.proofs.Common.{◌≡◌, ℕ, List, length, sym, ap, ◌∙◌, subst}
 use Rattle.std.specs.Prelude.{◌↔◌, Result, Ok, Err, OnOk}
 use Rattle.language_theory.specs.Automaton.{Automaton, Accepts, SameSubset}
 use Rattle.language_theory.specs.Representatives.{HasMoreClasses}
@@ -11,7 +11,7 @@ use Rattle.synmon_top.specs.Report.{HasMoreSubsets}
 
 -- the letters of a body's automaton are those of the alphabet
 body_letters : (k : ℕ) (body : BodyText) (m : Automaton) → IsSoundBody k body → IsBodyAutomaton k body m → m.letters ≡ k
-body_letters k (OfAutomaton n) m sound is = is.letters ∙ sound.1
+body_letters k (OfAutomaton n) m sound is = ap (λ (x : Automaton). x.letters) is ∙ sound.1
 body_letters k (OfExpression t) m sound is = is.letters
 
 -- relations that agree have as many classes
