@@ -1,5 +1,9 @@
 //! Worked examples.
-use crate::{MinDfa, MinFault, minimal};
+ghost use Rattle.std.specs.Prelude.{◌≡◌, ◌≤◌, ℕ, List, IfOk};
+ghost use Rattle.language_theory.specs.ShortlexGraph.{IsShortlex};
+
+use crate::{MinDfa, MinFault, minimal, minimise};
+use exploration::{ExploreFault, ShortlexGraph, TableStates, explore};
 use std::alloc::Global;
 use std::test::Fail;
 use syn_words::{Memory, Nfa};
@@ -93,5 +97,28 @@ fn stops_at_the_limit(rt: HostRuntime) -> Result<(), Fail> {
             Some(MinFault::SubsetLimit)
         );
     }
+    Ok(())
+}
+
+// The graph of four nodes in which a letter a leads to the other node of a pair, and a letter b to the other pair.
+fn two_pairs(alloc: Global) -> Result<ShortlexGraph, ExploreFault>
+    ensures shortlex { IfOk result (λ g. (words : List (List ℕ)) × IsShortlex g words) }
+    ensures letters { IfOk result (λ g. g.letters ≡ 2) }
+{
+    let targets = [1, 2, 0, 3, 3, 0, 2, 1];
+    let mut states = TableStates::new(alloc, 4, 2, 0, &targets);
+    explore(alloc, &mut states, 4)
+}
+
+#[test]
+fn minimises_a_graph(rt: HostRuntime) -> Result<(), Fail> {
+    let graph = two_pairs(rt.alloc())?;
+    assert_eq!(rt; graph.size(), 4);
+    let marks = [true, false, true, false];
+    let dfa = minimise(rt.alloc(), &graph, &marks)?;
+    assert_eq!(rt;
+        numbers_of(rt.alloc(), &dfa)?.as_slice(),
+        [0, 1, 1, 0, 1, 0, 0, 1, 0].as_slice()
+    );
     Ok(())
 }

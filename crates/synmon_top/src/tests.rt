@@ -26,6 +26,12 @@ const NO_WORD: &str = "synmon 1\nalphabet a\nnfa 2\ninitial 1\nfinal 0\n0 a 1\n1
 const FIVE_SETS: &str =
     "synmon 1\nalphabet ab\nnfa 5\ninitial 0 1\nfinal 0\n0 a 2\n1 a 2\n2 b 0\n2 a 4\n3 a 0\n";
 
+/// The words whose fourth letter from the end is a: 16 states, and 17 sets of positions.
+const FOURTH_LAST_A: &str = "synmon 1\nalphabet ab\nexpr (a|b)*a(a|b)(a|b)(a|b)\n";
+
+const FOURTH_LAST_A_TEXT: &str =
+    "automaton\nalphabet ab\nstates 16\n0 1 out 1 0\n1 a out 2 3\n2 aa out 4 5\n3 ab out 6 7\n4 aaa out 8 9\n5 aab out 10 11\n6 aba out 12 13\n7 abb out 14 15\n8 aaaa in 8 9\n9 aaab in 10 11\n10 aaba in 12 13\n11 aabb in 14 15\n12 abaa in 4 5\n13 abab in 6 7\n14 abba in 2 3\n15 abbb in 1 0\n";
+
 /// An expression whose first sign stands in no word, so that words lead to three sets of positions.
 const DEAD_SIGN: &str = "synmon 1\nalphabet ab\nexpr a0|b\n";
 
@@ -148,6 +154,20 @@ fn runs_end_as_their_table_says(rt: HostRuntime) -> Result<(), Fail> {
             status: 5,
             out: "",
             errs: "synmon: limit subsets 2\n",
+            ..GOOD
+        },
+        Row {
+            words: &["automaton", "--subsets", "17", "name"],
+            file: FOURTH_LAST_A,
+            out: FOURTH_LAST_A_TEXT,
+            ..GOOD
+        },
+        Row {
+            words: &["automaton", "--subsets", "16", "name"],
+            file: FOURTH_LAST_A,
+            status: 5,
+            out: "",
+            errs: "synmon: limit subsets 16\n",
             ..GOOD
         },
         Row {
