@@ -4,7 +4,7 @@ use Rattle.std.proofs.lemmas.List.{take_more, take_all}
 use Rattle.std.proofs.lemmas.Bool.{cases_lt}
 use Rattle.std.proofs.lemmas.Bool.Decides.{Decides-ltb}
 use Rattle.expression_theory.specs.Grammar.{Operand, Bar, Postfix, Open, Close}
-use Rattle.expression_theory.specs.Scan.{Class, Skipped, Unknown, Strange, Good, FaultKind, Unexpected, TooLarge, TooDeep, due_by, due_from, opens, closes, depth, depth_by, cost, nodes_from, size_test, failing, failing_at, IsAccepted, IsFault, EndsWell}
+use Rattle.expression_theory.specs.Scan.{Class, Skipped, Unknown, Strange, Good, Unexpected, TooLarge, TooDeep, due_by, due_from, opens, closes, depth, depth_by, cost, nodes_from, size_test, failing, failing_at, IsAccepted}
 use Rattle.expression_theory.proofs.Accepted.{due_push, nodes_push, counts_push}
 
 -- after i bytes: whether an operand is due, the open parentheses, the nodes, and no failing test so far

@@ -18,3 +18,8 @@ pub mod Letters
 pub mod Texts
 pub mod Faults
 pub mod Polish
+pub mod Spelled
+pub mod SomeWords
+pub mod Limits
+pub mod EachText
+pub mod AbStar

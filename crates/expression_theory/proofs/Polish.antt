@@ -1,7 +1,7 @@
 -- Polish notation of a tree, and back.
 use Rattle.std.proofs.Common.{◌≡◌, ℕ, zero, suc, ◌+◌, ◌≤◌, List, [], ◌∷◌, ◌++◌, length, drop, refl, ap, sym, subst, ◌∙◌, append_assoc, length-append, arith}
 use Rattle.std.proofs.lemmas.List.{append-nil}
-use Rattle.expression_theory.specs.Expression.{Tree, Zero, One, Letter, Or, Cat, Star, Plus, Opt, nodes}
+use Rattle.expression_theory.specs.Expression.{Tree, Zero, One, Letter, Or, Cat, Star, Plus, Opt}
 use Rattle.expression_theory.specs.Positions.{signs}
 use Rattle.expression_theory.specs.Polish.{Node, NoWord, EmptyWord, Symbol, Union, Product, AnyTimes, OnceOrMore, AtMostOnce, polish, built, trees, arity, IsNotation, letters, signs_among}
 

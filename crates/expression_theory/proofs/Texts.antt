@@ -1,11 +1,12 @@
 -- Texts and the trees that they spell.
 use Rattle.std.proofs.Common.{◌≡◌, ℕ, ◌+◌, Bool, true, Some, None, List, [], ◌∷◌, map, refl, ap, sym, subst, ◌∙◌, arith}
-use Rattle.expression_theory.specs.Expression.{Tree}
+use Rattle.expression_theory.specs.Expression.{Tree, nodes}
 use Rattle.expression_theory.specs.Grammar.{Sign, Spells, Union}
 use Rattle.expression_theory.specs.Frames.{tree_read}
-use Rattle.expression_theory.specs.Scan.{Class, Skipped, Unknown, Strange, Good, Unexpected, UnknownLetter, signs_in, due_by, depth_by, cost, visible, SpellsTree, IsAccepted}
+use Rattle.expression_theory.specs.Scan.{Class, Skipped, Unknown, Strange, Good, Unexpected, UnknownLetter, signs_in, due_by, depth_by, cost, nodes_from, visible, SpellsTree, IsAccepted}
 use Rattle.expression_theory.proofs.Complete.{spells_one}
 use Rattle.expression_theory.proofs.Sound.{read_spells}
+use Rattle.expression_theory.proofs.Nodes.{nodes_counted}
 use Rattle.expression_theory.proofs.Accepted.{Clear, clear_from, accepted_spells}
 
 clear_visible : (cs : List Class) (d : Bool) (o n : ℕ) → Clear d o n cs → visible cs ≡ map Good (signs_in cs)
@@ -48,3 +49,7 @@ accepted_tree cs h = let r = accepted_spells cs h in (r.0, (signs_in cs, accepte
 -- the tree that the frames of an accepted text read is the one that it spells
 pub read_tree : (cs : List Class) (t : Tree) → IsAccepted cs → tree_read (signs_in cs) ≡ Some t → SpellsTree cs t
 read_tree cs t h e = (signs_in cs, accepted_visible cs h, read_spells (signs_in cs) t e)
+
+-- the nodes that are counted in a text are those of the tree that it spells
+pub text_nodes : (cs : List Class) (t : Tree) → SpellsTree cs t → nodes_from true cs ≡ nodes t
+text_nodes cs t (w, e, h) = nodes_counted cs t (subst (λ w. Spells Union w t) (sym (visible_signs cs w e)) h)

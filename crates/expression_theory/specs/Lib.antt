@@ -5,3 +5,4 @@ pub mod Grammar
 pub mod Frames
 pub mod Scan
 pub mod Polish
+pub mod Examples
