@@ -11,7 +11,7 @@ use crate::language::Language;
 
 /// Minimising: of a shortlex graph whose marked nodes are those of the language's words, the quotient by the coarsest partition is the minimal automaton.
 pub fn coarsest_quotient_is_minimal<L: Language>()
-    ensures { (k : ℕ) (g q : Graph) (words first : List (List ℕ)) (marks finals : List Bool) (count : ℕ) (classes : List ℕ) → IsShortlex g words → g.letters ≡ k → length marks ≡ g.size → ((w : List ℕ) → Over k w → IsTrue (is_marked marks (node g w)) ↔ L.has w) → IsCoarsest g marks count classes → IsQuotient g count classes q → AreFirstWords count classes words first → length finals ≡ count → ((i : ℕ) → i < g.size → is_marked finals (slice_index classes i) ≡ is_marked marks i) → IsMinimal k L.has (record { graph = q; finals = finals; words = first }) }
+    ensures { (k : ℕ) (g q : Graph) (words first : List (List ℕ)) (marks finals : List Bool) (count : ℕ) (classes : List ℕ) → IsShortlex g words → g.letters ≡ k → ((w : List ℕ) → Over k w → IsTrue (is_marked marks (node g w)) ↔ L.has w) → IsCoarsest g marks count classes → IsQuotient g count classes q → AreFirstWords count classes words first → length finals ≡ count → ((i : ℕ) → i < g.size → is_marked finals (slice_index classes i) ≡ is_marked marks i) → IsMinimal k L.has (record { graph = q; finals = finals; words = first }) }
 {}
 
 /// A language has one minimal automaton, and so have languages with the same words over k letters.
