@@ -78,7 +78,7 @@ pub ab_star_has_six_rules : AreRules 2 (Syntactic 2 IsAbStar) ab_star_elements a
 ab_star_has_six_rules = record { each = each; rise = rise; all = all }
   where
     all : (left : List ℕ) (right_side : ℕ) → IsRule 2 (Syntactic 2 IsAbStar) ab_star_elements left right_side → (n : ℕ) × (n < 6) × (rule_at ab_star_rules n ≡ (left, right_side))
-    all left right_side r = by (rule_is_at_place 2 (Syntactic 2 IsAbStar) ab_star_elements congruence.equivalence list left right_side r)
+    all left right_side r = by (rule_is_at_place 2 (Syntactic 2 IsAbStar) ab_star_elements list left right_side r)
       where
         by : (i a : ℕ) × (i < 6) × (a < 2) × (left ≡ word_at ab_star_elements i ++ a ∷ []) → (n : ℕ) × (n < 6) × (rule_at ab_star_rules n ≡ (left, right_side))
         by (i, a, h, g, e) =

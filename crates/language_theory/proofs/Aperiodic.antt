@@ -75,8 +75,9 @@ module _ (k : ℕ) (same : List ℕ → List ℕ → Type 0) (c : IsCongruence k
       | inr none ↦ inl (aperiodic_by_listed (λ e i p h a. period_one e i p h (none e h) a))
     ]
 
-    pub loop_not_aperiodic : (e i p : ℕ) → IsFirstLoop same words e i p → ¬ IsAperiodic k same
-    loop_not_aperiodic e i p f a = let one = a.one (word_at words e) i p (l.over e f.within) f.powers in let m = f.more in omega arith
+-- a listed word with a period greater than 1 refutes aperiodicity
+pub loop_not_aperiodic : (k : ℕ) (same : List ℕ → List ℕ → Type 0) (words : List (List ℕ)) → AreRepresentatives k same words → (e i p : ℕ) → IsFirstLoop same words e i p → ¬ IsAperiodic k same
+loop_not_aperiodic k same words l e i p f a = let one = a.one (word_at words e) i p (l.over e f.within) f.powers in let m = f.more in omega arith
 
 -- a word with a period greater than 1, and the least context that separates the power at its index from the next one, never settle
 pub loop_never_settles : (k : ℕ) (L : List ℕ → Type 0) (d : MinimalAutomaton) → IsMinimal k L d → (x : List ℕ) (i p : ℕ) → Over k x → IsIndexAndPeriod (Syntactic k L) x i p → 1 < p → (u v : List ℕ) × IsSeparation k L (power i x) (power (i + 1) x) u v × NeverSettle L u x v

@@ -3,13 +3,12 @@ use Rattle.std.proofs.Common.{◌≡◌, ℕ, zero, suc, ◌+◌, ◌<◌, ◌�
 use Rattle.std.specs.List.{list_any}
 use Rattle.std.proofs.lemmas.Bool.{both_ways, eq-eqb, eqb-true}
 use Rattle.std.proofs.lemmas.List.Elements.{Contains-append_right}
-use Rattle.language_theory.specs.Words.{Over}
 use Rattle.language_theory.specs.Automaton.{Automaton, is_final, is_initial, is_step, has_step, targets_among, targets_of, IsTarget, AcceptsFrom, Accepts, Leads, IsReached, SameSubset}
 use Rattle.language_theory.specs.Runs.{IsRun}
 use Rattle.language_theory.specs.Congruence.{IsRightCongruence}
 use Rattle.language_theory.specs.Nerode.{Nerode}
 use Rattle.language_theory.proofs.Numbers.{true_or_not, least_or_none}
-use Rattle.language_theory.proofs.Congruences.{both_directions, other_direction, nerode_coarsest}
+use Rattle.language_theory.proofs.Congruences.{both_directions, other_direction}
 
 -- ---- words put together
 
@@ -74,7 +73,7 @@ accepts_behind m u v = (
   λ h. let (q, (p, i, f), g) = h in (p, i, (accepts_append m u v p).1 (q, f, g)),
 )
 
--- to reach the same states is a right congruence, and the language is a union of its classes
+-- to reach the same states is a right congruence
 pub same_subset_right : (k : ℕ) (m : Automaton) → IsRightCongruence k (SameSubset m)
 same_subset_right k m = record {
   equivalence = record { refl = λ u o r. (λ h. h, λ h. h); symm = λ u v ou ov s r. other_direction (s r); trans = λ u v w ou ov ow s t r. both_directions (s r) (t r) };
@@ -84,11 +83,12 @@ same_subset_right k m = record {
     half : (u v w : List ℕ) (r : ℕ) → ((q : ℕ) → IsReached m u q → IsReached m v q) → IsReached m (u ++ w) r → IsReached m (v ++ w) r
     half u v w r s h = let (q, f, g) = (reached_append m u w r).0 h in (reached_append m v w r).1 (q, s q f, g)
 
-pub same_subset_respects : (m : Automaton) (u v : List ℕ) → SameSubset m u v → Accepts m u → Accepts m v
-same_subset_respects m u v s h = let (r, f, g) = (accepts_reached m u).0 h in (accepts_reached m v).1 (r, (s r).0 f, g)
-
-pub same_subset_nerode : (k : ℕ) (m : Automaton) (u v : List ℕ) → Over k u → Over k v → SameSubset m u v → Nerode k (Accepts m) u v
-same_subset_nerode k m = nerode_coarsest k (Accepts m) (SameSubset m) (same_subset_right k m) (λ u v ou ov. same_subset_respects m u v)
+-- and the same words are accepted behind words that reach the same states
+pub same_subset_nerode : (k : ℕ) (m : Automaton) (u v : List ℕ) → SameSubset m u v → Nerode k (Accepts m) u v
+same_subset_nerode k m u v s w o = (half u v (λ q. (s q).0), half v u (λ q. (s q).1))
+  where
+    half : (u v : List ℕ) → ((q : ℕ) → IsReached m u q → IsReached m v q) → Accepts m (u ++ w) → Accepts m (v ++ w)
+    half u v f h = let (q, r, g) = (accepts_behind m u w).0 h in (accepts_behind m v w).1 (q, f q r, g)
 
 -- ---- lists of states
 

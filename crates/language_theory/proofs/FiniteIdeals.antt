@@ -140,7 +140,7 @@ module _ (k : ℕ) (same : List ℕ → List ℕ → Type 0) (words : List (List
           by ((u, ou, d), e) = ((u, ou, through z (u ++ (p ++ z)) (u ++ t) oz (over_append k u (p ++ z) ou opz) (over_append k u t ou ot) d (c.left (p ++ z) t u opz ot ou (c.equivalence.symm t (p ++ z) ot opz g))), (p, op, g))
 
   pub d_in_j : (s t : List ℕ) → Over k s → Over k t → IsD k same s t → IsJ k same s t
-  d_in_j s t os ot (z, oz, r, m) = (j_equivalence k same c).trans s z t os oz ot (r_in_j k same c s z r) (l_in_j k same c z t m)
+  d_in_j s t os ot (z, oz, r, m) = (j_equivalence k same c).trans s z t os oz ot (r_in_j k same s z r) (l_in_j k same z t m)
 
   pub j_is_d : (s t : List ℕ) → Over k s → Over k t → IsJ k same s t ↔ IsD k same s t
   j_is_d s t os ot = (j_in_d s t os ot, d_in_j s t os ot)
@@ -152,9 +152,9 @@ module _ (k : ℕ) (same : List ℕ → List ℕ → Type 0) (words : List (List
       by : (s t : List ℕ) → Over k s → Over k t → IsD k same s t → same s t
       by s t os ot (z, oz, g, f) = through s z t os oz ot (r.one s z os oz g) (m.one z t oz ot f)
 
-module _ (k : ℕ) (same : List ℕ → List ℕ → Type 0) (c : IsCongruence k same) where
+module _ (k : ℕ) (same : List ℕ → List ℕ → Type 0) where
   pub r_trivial_by_j : IsJTrivial k same → IsRTrivial k same
-  r_trivial_by_j j = record { one = λ s t os ot h. j.one s t os ot (r_in_j k same c s t h) }
+  r_trivial_by_j j = record { one = λ s t os ot h. j.one s t os ot (r_in_j k same s t h) }
 
   pub l_trivial_by_j : IsJTrivial k same → IsLTrivial k same
-  l_trivial_by_j j = record { one = λ s t os ot h. j.one s t os ot (l_in_j k same c s t h) }
+  l_trivial_by_j j = record { one = λ s t os ot h. j.one s t os ot (l_in_j k same s t h) }

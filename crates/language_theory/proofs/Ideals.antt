@@ -13,6 +13,19 @@ both_ways k In itself through = record {
   trans = λ r s t or os ot h g. (through r s t or os ot h.0 g.0, through t s r ot os or g.1 h.1);
 }
 
+module _ (k : ℕ) (same : List ℕ → List ℕ → Type 0) where
+  pub right_in_ideal : (s t : List ℕ) → IsInRight k same s t → IsInIdeal k same s t
+  right_in_ideal s t (x, o, h) = ([], x, tt, o, h)
+
+  pub left_in_ideal : (s t : List ℕ) → IsInLeft k same s t → IsInIdeal k same s t
+  left_in_ideal s t (x, o, h) = (x, [], o, tt, subst (λ (w : List ℕ). same s (x ++ w)) (sym (append-nil t)) h)
+
+  pub r_in_j : (s t : List ℕ) → IsR k same s t → IsJ k same s t
+  r_in_j s t h = (right_in_ideal s t h.0, right_in_ideal t s h.1)
+
+  pub l_in_j : (s t : List ℕ) → IsL k same s t → IsJ k same s t
+  l_in_j s t h = (left_in_ideal s t h.0, left_in_ideal t s h.1)
+
 module _ (k : ℕ) (same : List ℕ → List ℕ → Type 0) (c : IsCongruence k same) where
   pub related_equal : (u v : List ℕ) → Over k u → u ≡ v → same u v
   related_equal u v o e = subst (λ (w : List ℕ). same u w) e (c.equivalence.refl u o)
@@ -76,18 +89,6 @@ module _ (k : ℕ) (same : List ℕ → List ℕ → Type 0) (c : IsCongruence k
     trans = λ r s t or os ot h g. (r_equivalence.trans r s t or os ot h.0 g.0, l_equivalence.trans r s t or os ot h.1 g.1);
   }
 
-  pub right_in_ideal : (s t : List ℕ) → IsInRight k same s t → IsInIdeal k same s t
-  right_in_ideal s t (x, o, h) = ([], x, tt, o, h)
-
-  pub left_in_ideal : (s t : List ℕ) → IsInLeft k same s t → IsInIdeal k same s t
-  left_in_ideal s t (x, o, h) = (x, [], o, tt, subst (λ (w : List ℕ). same s (x ++ w)) (sym (append-nil t)) h)
-
-  pub r_in_j : (s t : List ℕ) → IsR k same s t → IsJ k same s t
-  r_in_j s t h = (right_in_ideal s t h.0, right_in_ideal t s h.1)
-
-  pub l_in_j : (s t : List ℕ) → IsL k same s t → IsJ k same s t
-  l_in_j s t h = (left_in_ideal s t h.0, left_in_ideal t s h.1)
-
   in_right_before : (w s t : List ℕ) → Over k w → Over k s → Over k t → IsInRight k same s t → IsInRight k same (w ++ s) (w ++ t)
   in_right_before w s t ow os ot (x, ox, h) = (x, ox, rw append_assoc (c.left s (t ++ x) w os (over_append k t x ot ox) ow h))
 
@@ -101,29 +102,30 @@ module _ (k : ℕ) (same : List ℕ → List ℕ → Type 0) (c : IsCongruence k
   pub l_behind : (w s t : List ℕ) → Over k w → Over k s → Over k t → IsL k same s t → IsL k same (s ++ w) (t ++ w)
   l_behind w s t ow os ot h = (in_left_behind w s t ow os ot h.0, in_left_behind w t s ow ot os h.1)
 
+module _ (k : ℕ) (same : List ℕ → List ℕ → Type 0) (e : IsEquivalence k same) where
   -- related words are in one class of H, and so of R, L and J
   pub h_of_related : (s t : List ℕ) → Over k s → Over k t → same s t → IsH k same s t
   h_of_related s t os ot h = (
-    (([], tt, subst (λ (w : List ℕ). same s w) (sym (append-nil t)) h), ([], tt, subst (λ (w : List ℕ). same t w) (sym (append-nil s)) (c.equivalence.symm s t os ot h))),
-    (([], tt, h), ([], tt, c.equivalence.symm s t os ot h)),
+    (([], tt, subst (λ (w : List ℕ). same s w) (sym (append-nil t)) h), ([], tt, subst (λ (w : List ℕ). same t w) (sym (append-nil s)) (e.symm s t os ot h))),
+    (([], tt, h), ([], tt, e.symm s t os ot h)),
   )
 
 -- where the elements are the values of words, an ideal is that of the values
 module _ (k : ℕ) (value : List ℕ → ℕ) (c : IsCongruence k (λ u v. value u ≡ value v)) where
-  pub right_ideal_of_values : (s t : List ℕ) → Over k s → Over k t → IsInRight k (λ u v. value u ≡ value v) t s ↔ ((w y : List ℕ) × Over k w × Over k y × (value w ≡ value s) × (value (w ++ y) ≡ value t))
-  right_ideal_of_values s t os ot = (
+  pub right_ideal_of_values : (s t : List ℕ) → Over k s → IsInRight k (λ u v. value u ≡ value v) t s ↔ ((w y : List ℕ) × Over k w × Over k y × (value w ≡ value s) × (value (w ++ y) ≡ value t))
+  right_ideal_of_values s t os = (
     λ h. (s, h.0, os, h.1, refl, sym h.2),
     λ h. (h.1, h.3, sym h.5 ∙ c.right h.0 s h.1 h.2 os h.3 h.4),
   )
 
-  pub left_ideal_of_values : (s t : List ℕ) → Over k s → Over k t → IsInLeft k (λ u v. value u ≡ value v) t s ↔ ((w x : List ℕ) × Over k w × Over k x × (value w ≡ value s) × (value (x ++ w) ≡ value t))
-  left_ideal_of_values s t os ot = (
+  pub left_ideal_of_values : (s t : List ℕ) → Over k s → IsInLeft k (λ u v. value u ≡ value v) t s ↔ ((w x : List ℕ) × Over k w × Over k x × (value w ≡ value s) × (value (x ++ w) ≡ value t))
+  left_ideal_of_values s t os = (
     λ h. (s, h.0, os, h.1, refl, sym h.2),
     λ h. (h.1, h.3, sym h.5 ∙ c.left h.0 s h.1 h.2 os h.3 h.4),
   )
 
-  pub ideal_of_values : (s t : List ℕ) → Over k s → Over k t → IsInIdeal k (λ u v. value u ≡ value v) t s ↔ ((w x y : List ℕ) × Over k w × Over k x × Over k y × (value w ≡ value s) × (value (x ++ (w ++ y)) ≡ value t))
-  ideal_of_values s t os ot = (
+  pub ideal_of_values : (s t : List ℕ) → Over k s → IsInIdeal k (λ u v. value u ≡ value v) t s ↔ ((w x y : List ℕ) × Over k w × Over k x × Over k y × (value w ≡ value s) × (value (x ++ (w ++ y)) ≡ value t))
+  ideal_of_values s t os = (
     λ h. (s, h.0, h.1, os, h.2, h.3, refl, sym h.4),
     λ h. (h.1, h.2, h.4, h.5, sym h.7 ∙ related_between k (λ u v. value u ≡ value v) c h.0 s h.1 h.2 h.3 os h.4 h.5 h.6),
   )

@@ -1,6 +1,7 @@
 -- The prefix, last, first and suffix links of a list of representatives: there are such links, one of each, and they lead to smaller places.
-use Rattle.std.proofs.Common.{◌≡◌, ◌⊎◌, inl, inr, ℕ, ◌<◌, List, [], ◌∷◌, ◌++◌, length, refl, sym, ap, subst, ◌∙◌, arith}
-use Rattle.std.proofs.lemmas.List.{append_cancel_left}
+use Rattle.std.proofs.Common.{◌≡◌, ◌⊎◌, inl, inr, ℕ, ◌<◌, List, [], ◌∷◌, ◌++◌, length, refl, sym, ap, subst, ◌∙◌, arith, length-append}
+use Rattle.std.proofs.lemmas.List.{append_cancel_left, get_or_past}
+use Rattle.std.proofs.lemmas.Bool.{cases_lt}
 use Rattle.language_theory.specs.Words.{◌⊏◌, word_at}
 use Rattle.language_theory.specs.Congruence.{IsCongruence}
 use Rattle.language_theory.specs.Representatives.{AreRepresentatives, IsReduced}
@@ -9,6 +10,16 @@ use Rattle.language_theory.proofs.Shortlex.{over_back, last_letter, smaller_than
 use Rattle.language_theory.proofs.Representatives.{reduced_is_listed, listed_is_reduced, reduced_prefix, reduced_suffix, right_congruence, listed_once, listed_order}
 use Rattle.language_theory.proofs.Places.{first_is_empty}
 use Rattle.language_theory.proofs.Rules.{front_is_one}
+
+-- the word at a place behind the end is empty, so a place whose word has a letter is one of the list
+pub within_by_letters : (words : List (List ℕ)) (i : ℕ) → 0 < length (word_at words i) → i < length words
+within_by_letters words i h = elim (cases_lt i (length words)) [ inl l ↦ l | inr l ↦ absurd (let e = ap length (get_or_past words i [] l) in omega arith) ]
+
+pub prefix_link_within : (words : List (List ℕ)) (i p a : ℕ) → IsPrefixLink words i p a → i < length words
+prefix_link_within words i p a f = within_by_letters words i (let e = ap length f.splits in let n = length-append (word_at words p) (a ∷ []) in omega arith)
+
+pub suffix_link_within : (words : List (List ℕ)) (i a s : ℕ) → IsSuffixLink words i a s → i < length words
+suffix_link_within words i a s f = within_by_letters words i (let e = ap length f.splits in omega arith)
 
 module _ (k : ℕ) (same : List ℕ → List ℕ → Type 0) (words : List (List ℕ)) (c : IsCongruence k same) (l : AreRepresentatives k same words) where
   not_empty : (i : ℕ) → 0 < i → i < length words → ¬ (word_at words i ≡ [])
@@ -55,8 +66,8 @@ module _ (k : ℕ) (same : List ℕ → List ℕ → Type 0) (words : List (List
       let back : word_at words s ≡ word_at words t = cc in
       ((cc), listed_once k same words l s t f.within g.within back)
 
-  pub prefix_before : (i p a : ℕ) → i < length words → IsPrefixLink words i p a → p < i
-  prefix_before i p a h f = listed_order k same words l p i f.within h (subst (λ (w : List ℕ). word_at words p ⊏ w) (sym f.splits) (smaller_than_longer (word_at words p) a))
+  pub prefix_before : (i p a : ℕ) → IsPrefixLink words i p a → p < i
+  prefix_before i p a f = listed_order k same words l p i f.within (prefix_link_within words i p a f) (subst (λ (w : List ℕ). word_at words p ⊏ w) (sym f.splits) (smaller_than_longer (word_at words p) a))
 
-  pub suffix_before : (i a s : ℕ) → i < length words → IsSuffixLink words i a s → s < i
-  suffix_before i a s h f = listed_order k same words l s i f.within h (subst (λ (w : List ℕ). word_at words s ⊏ w) (sym f.splits) (shorter_first (word_at words s) (a ∷ word_at words s) (omega arith)))
+  pub suffix_before : (i a s : ℕ) → IsSuffixLink words i a s → s < i
+  suffix_before i a s f = listed_order k same words l s i f.within (suffix_link_within words i a s f) (subst (λ (w : List ℕ). word_at words s ⊏ w) (sym f.splits) (shorter_first (word_at words s) (a ∷ word_at words s) (omega arith)))

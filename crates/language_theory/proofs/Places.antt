@@ -14,6 +14,9 @@ place_is_one same words w i j a b = b.only i a.within a.related
 pub product_is_one : (same : List ℕ → List ℕ → Type 0) (words : List (List ℕ)) (i j r s : ℕ) → IsProduct same words i j r → IsProduct same words i j s → r ≡ s
 product_is_one same words i j r s a b = place_is_one same words (word_at words i ++ word_at words j) r s a b
 
+pub product_exists : (k : ℕ) (same : List ℕ → List ℕ → Type 0) (words : List (List ℕ)) → AreRepresentatives k same words → (i j : ℕ) → i < length words → j < length words → (r : ℕ) × IsProduct same words i j r
+product_exists k same words l i j h g = l.place (word_at words i ++ word_at words j) (over_append k (word_at words i) (word_at words j) (l.over i h) (l.over j g))
+
 module _ (k : ℕ) (same : List ℕ → List ℕ → Type 0) (words : List (List ℕ)) (e : IsEquivalence k same) (l : AreRepresentatives k same words) where
   -- a listed word has its own place
   pub place_of_listed : (i : ℕ) → i < length words → IsPlaceOf same words (word_at words i) i
@@ -41,6 +44,13 @@ module _ (k : ℕ) (same : List ℕ → List ℕ → Type 0) (words : List (List
   pub place_of_empty : IsPlaceOf same words [] 0
   place_of_empty = subst (λ (w : List ℕ). IsPlaceOf same words w 0) first_is_empty (place_of_listed 0 list_is_not_empty)
 
+  -- the place of the empty word is the identity
+  pub product_with_first : (j : ℕ) → j < length words → IsProduct same words 0 j j
+  product_with_first j h = rw first_is_empty (place_of_listed j h)
+
+  pub product_by_first : (i : ℕ) → i < length words → IsProduct same words i 0 i
+  product_by_first i h = rw (first_is_empty, append-nil (word_at words i)) (place_of_listed i h)
+
 module _ (k : ℕ) (same : List ℕ → List ℕ → Type 0) (words : List (List ℕ)) (c : IsCongruence k same) (l : AreRepresentatives k same words) where
   -- related words, put together, are related
   pub related_joined : (u v x y : List ℕ) → Over k u → Over k v → Over k x → Over k y → same u x → same v y → same (u ++ v) (x ++ y)
@@ -64,9 +74,6 @@ module _ (k : ℕ) (same : List ℕ → List ℕ → Type 0) (words : List (List
 
       oy : Over k y
       oy = l.over j q.within
-
-  pub product_exists : (i j : ℕ) → i < length words → j < length words → (r : ℕ) × IsProduct same words i j r
-  product_exists i j h g = l.place (word_at words i ++ word_at words j) (over_append k (word_at words i) (word_at words j) (l.over i h) (l.over j g))
 
   -- (i j) m is i (j m)
   pub product_is_associative : (i j m r s t : ℕ) → i < length words → j < length words → m < length words → IsProduct same words i j r → IsProduct same words r m s → IsProduct same words j m t → IsProduct same words i t s
@@ -92,13 +99,6 @@ module _ (k : ℕ) (same : List ℕ → List ℕ → Type 0) (words : List (List
 
       listed : (n : ℕ) → n < length words → IsPlaceOf same words (word_at words n) n
       listed = place_of_listed k same words c.equivalence l
-
-  -- the place of the empty word is the identity
-  pub product_with_first : (j : ℕ) → j < length words → IsProduct same words 0 j j
-  product_with_first j h = rw (first_is_empty k same words c.equivalence l) (place_of_listed k same words c.equivalence l j h)
-
-  pub product_by_first : (i : ℕ) → i < length words → IsProduct same words i 0 i
-  product_by_first i h = rw (first_is_empty k same words c.equivalence l, append-nil (word_at words i)) (place_of_listed k same words c.equivalence l i h)
 
   -- multiplication by a letter takes the place of any word to the place of the word with the letter
   pub right_of_word : (w : List ℕ) (i a r : ℕ) → Over k w → a < k → IsPlaceOf same words w i → IsPlaceOf same words (w ++ a ∷ []) r ↔ IsRight same words i a r

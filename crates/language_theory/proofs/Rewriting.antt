@@ -57,7 +57,7 @@ module _ (k : ℕ) (same : List ℕ → List ℕ → Type 0) (words : List (List
   pub rewriting_related : {u v : List ℕ} → Over k u → Rewrites words rules u v → Over k v × same u v
   rewriting_related {u = u} o unchanged = (o, c.equivalence.refl u o)
   rewriting_related {u = u} {v = w} o (replaced {v = v} m h) =
-      let ov = replacement_over k same words c.equivalence l rules r u v o m in
+      let ov = replacement_over k same words l rules r u v o m in
       let (ow, s) = rewriting_related {u = v} {v = w} ov h in
       (ow, c.equivalence.trans u v w o ov ow (replacement_related u v o m) s)
 
@@ -81,7 +81,7 @@ module _ (k : ℕ) (same : List ℕ → List ℕ → Type 0) (words : List (List
             where
               further : (v : List ℕ) × IsReplacement words rules w v → Rewrites words rules w (word_at words i)
               further (v, m) =
-                  let ov = replacement_over k same words c.equivalence l rules r w v o m in
+                  let ov = replacement_over k same words l rules r w v o m in
                   replaced m (smaller v ov (replacement_falls k same words c.equivalence l rules r w v m) i (place_of_related k same words l c.equivalence w v i o ov (replacement_related w v o m) p))
 
   -- words are related exactly where they are rewritten to one listed word

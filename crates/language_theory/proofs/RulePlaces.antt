@@ -11,16 +11,7 @@ use Rattle.language_theory.proofs.Representatives.{reduced_is_listed, listed_is_
 use Rattle.language_theory.proofs.Places.{place_of_listed, place_is_one, first_is_empty}
 use Rattle.language_theory.proofs.Rules.{front_is_one, empty_is_reduced}
 
-module _ (k : ℕ) (same : List ℕ → List ℕ → Type 0) (words : List (List ℕ)) (e : IsEquivalence k same) (l : AreRepresentatives k same words) where
-  -- a word is reduced where it is the listed word of its place
-  pub reduced_at_place : (w : List ℕ) (i : ℕ) → IsPlaceOf same words w i → IsReduced k same w ↔ (word_at words i ≡ w)
-  reduced_at_place w i p = (to, λ h. subst (IsReduced k same) h (listed_is_reduced k same words l e i p.within))
-    where
-      to : IsReduced k same w → word_at words i ≡ w
-      to d =
-          let (j, h, f) = reduced_is_listed k same words l w d in
-          ap (word_at words) (place_is_one same words w i j p (subst (λ (v : List ℕ). IsPlaceOf same words v j) f (place_of_listed k same words e l j h))) ∙ f
-
+module _ (k : ℕ) (same : List ℕ → List ℕ → Type 0) (words : List (List ℕ)) (l : AreRepresentatives k same words) where
   -- the left side of a rule is a listed word and a letter
   pub rule_is_at_place : (left : List ℕ) (right : ℕ) → IsRule k same words left right → (i a : ℕ) × (i < length words) × (a < k) × (left ≡ word_at words i ++ a ∷ [])
   rule_is_at_place left right r = by (last_letter left)
@@ -30,6 +21,31 @@ module _ (k : ℕ) (same : List ℕ → List ℕ → Type 0) (words : List (List
       by (inr (u, a, f)) =
           let (i, h, g) = reduced_is_listed k same words l u (r.front u a (sym f)) in
           (i, a, h, (over_back k u (a ∷ []) (subst (Over k) f r.over)).0, f ∙ ap (λ (w : List ℕ). w ++ a ∷ []) (sym g))
+
+  -- listed words with letters behind rise with the places, and at one place with the letters
+  pub left_sides_rise : (i j a b : ℕ) → j < length words → (i < j) ⊎ ((i ≡ j) × (a < b)) → (word_at words i ++ a ∷ []) ⊏ (word_at words j ++ b ∷ [])
+  left_sides_rise i j a b h (inl g) = smaller_with_letters (word_at words i) (word_at words j) a b (l.rise i j g h)
+  left_sides_rise i j a b h (inr (f, g)) = subst (λ (n : ℕ). (word_at words i ++ a ∷ []) ⊏ (word_at words n ++ b ∷ [])) f (smaller_last_letter (word_at words i) a b g)
+
+  -- so no two of them are one left side
+  pub left_side_is_one : (i j a b : ℕ) → i < length words → j < length words → word_at words i ++ a ∷ [] ≡ word_at words j ++ b ∷ [] → (i ≡ j) × (a ≡ b)
+  left_side_is_one i j a b h g f = (listed_once k same words l i j h g front, last front)
+    where
+      front : word_at words i ≡ word_at words j
+      front = front_is_one (word_at words i) (word_at words j) a b f
+
+      last : word_at words i ≡ word_at words j → a ≡ b
+      last d = let t : a ∷ [] ≡ b ∷ [] = append_cancel_left (word_at words j) (a ∷ []) (b ∷ []) (subst (λ (w : List ℕ). w ++ a ∷ [] ≡ word_at words j ++ b ∷ []) d f) in cc
+
+module _ (k : ℕ) (same : List ℕ → List ℕ → Type 0) (words : List (List ℕ)) (e : IsEquivalence k same) (l : AreRepresentatives k same words) where
+  -- a word is reduced where it is the listed word of its place
+  pub reduced_at_place : (w : List ℕ) (i : ℕ) → IsPlaceOf same words w i → IsReduced k same w ↔ (word_at words i ≡ w)
+  reduced_at_place w i p = (to, λ h. subst (IsReduced k same) h (listed_is_reduced k same words l e i p.within))
+    where
+      to : IsReduced k same w → word_at words i ≡ w
+      to d =
+          let (j, h, f) = reduced_is_listed k same words l w d in
+          ap (word_at words) (place_is_one same words w i j p (subst (λ (v : List ℕ). IsPlaceOf same words v j) f (place_of_listed k same words e l j h))) ∙ f
 
   -- the listed word at i with the letter a is a left side where it is not listed, but is without its first letter
   pub rule_by_places : (i a r b s q : ℕ) → a < k → i < length words → IsRight same words i a r → IsSuffixLink words i b s → IsRight same words s a q → IsRule k same words (word_at words i ++ a ∷ []) r ↔ (¬ (word_at words r ≡ word_at words i ++ a ∷ []) × (word_at words q ≡ word_at words s ++ a ∷ []))
@@ -68,18 +84,3 @@ module _ (k : ℕ) (same : List ℕ → List ℕ → Type 0) (words : List (List
         back = λ x w f. let m : [] ≡ w = cc in subst (IsReduced k same) m (empty_is_reduced k same);
         place = p;
       }
-
-  -- listed words with letters behind rise with the places, and at one place with the letters
-  pub left_sides_rise : (i j a b : ℕ) → j < length words → (i < j) ⊎ ((i ≡ j) × (a < b)) → (word_at words i ++ a ∷ []) ⊏ (word_at words j ++ b ∷ [])
-  left_sides_rise i j a b h (inl g) = smaller_with_letters (word_at words i) (word_at words j) a b (l.rise i j g h)
-  left_sides_rise i j a b h (inr (f, g)) = subst (λ (n : ℕ). (word_at words i ++ a ∷ []) ⊏ (word_at words n ++ b ∷ [])) f (smaller_last_letter (word_at words i) a b g)
-
-  -- so no two of them are one left side
-  pub left_side_is_one : (i j a b : ℕ) → i < length words → j < length words → word_at words i ++ a ∷ [] ≡ word_at words j ++ b ∷ [] → (i ≡ j) × (a ≡ b)
-  left_side_is_one i j a b h g f = (listed_once k same words l i j h g front, last front)
-    where
-      front : word_at words i ≡ word_at words j
-      front = front_is_one (word_at words i) (word_at words j) a b f
-
-      last : word_at words i ≡ word_at words j → a ≡ b
-      last d = let t : a ∷ [] ≡ b ∷ [] = append_cancel_left (word_at words j) (a ∷ []) (b ∷ []) (subst (λ (w : List ℕ). w ++ a ∷ [] ≡ word_at words j ++ b ∷ []) d f) in cc

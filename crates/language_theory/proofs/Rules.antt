@@ -96,7 +96,8 @@ module _ (k : ℕ) (same : List ℕ → List ℕ → Type 0) (words : List (List
   pub replacement_falls : (u v : List ℕ) → IsReplacement words rules u v → v ⊏ u
   replacement_falls u v m = rw (m.holds, m.gives) (shortlex_before m.before (word_at words (rule_at rules m.rule).1 ++ m.behind) ((rule_at rules m.rule).0 ++ m.behind) ∙ smaller_with_word (word_at words (rule_at rules m.rule).1) (rule_at rules m.rule).0 m.behind (rule_falls k same words e l (rule_at rules m.rule).0 (rule_at rules m.rule).1 (r.each m.rule m.within)))
 
-  -- over the same letters
+module _ (k : ℕ) (same : List ℕ → List ℕ → Type 0) (words : List (List ℕ)) (l : AreRepresentatives k same words) (rules : List (List ℕ × ℕ)) (r : AreRules k same words rules) where
+  -- a replacement gives a word over the same letters
   pub replacement_over : (u v : List ℕ) → Over k u → IsReplacement words rules u v → Over k v
   replacement_over u v o m =
       let whole = subst (Over k) m.holds o in

@@ -15,13 +15,13 @@ pub fn greens_relations_are_equivalences<R: Relation>()
     ensures left { (k : ℕ) → IsCongruence k R.same → IsEquivalence k (IsL k R.same) }
     ensures two_sided { (k : ℕ) → IsCongruence k R.same → IsEquivalence k (IsJ k R.same) }
     ensures both { (k : ℕ) → IsCongruence k R.same → IsEquivalence k (IsH k R.same) }
-    ensures related { (k : ℕ) → IsCongruence k R.same → (s t : List ℕ) → Over k s → Over k t → R.same s t → IsH k R.same s t }
+    ensures related { (k : ℕ) → IsEquivalence k R.same → (s t : List ℕ) → Over k s → Over k t → R.same s t → IsH k R.same s t }
 {}
 
 /// R and L are contained in J.
 pub fn r_and_l_are_in_j<R: Relation>()
-    ensures right { (k : ℕ) → IsCongruence k R.same → (s t : List ℕ) → IsR k R.same s t → IsJ k R.same s t }
-    ensures left { (k : ℕ) → IsCongruence k R.same → (s t : List ℕ) → IsL k R.same s t → IsJ k R.same s t }
+    ensures right { (k : ℕ) (s t : List ℕ) → IsR k R.same s t → IsJ k R.same s t }
+    ensures left { (k : ℕ) (s t : List ℕ) → IsL k R.same s t → IsJ k R.same s t }
 {}
 
 /// R is kept by multiplication on the left, and L by multiplication on the right.
@@ -40,8 +40,8 @@ pub fn j_is_d_in_a_finite_monoid<R: Relation>()
 /// A finite monoid is J-trivial exactly where it is both R-trivial and L-trivial.
 pub fn trivial_on_both_sides<R: Relation>()
     ensures both { (k : ℕ) (words : List (List ℕ)) → IsCongruence k R.same → AreRepresentatives k R.same words → IsRTrivial k R.same → IsLTrivial k R.same → IsJTrivial k R.same }
-    ensures right { (k : ℕ) → IsCongruence k R.same → IsJTrivial k R.same → IsRTrivial k R.same }
-    ensures left { (k : ℕ) → IsCongruence k R.same → IsJTrivial k R.same → IsLTrivial k R.same }
+    ensures right { (k : ℕ) → IsJTrivial k R.same → IsRTrivial k R.same }
+    ensures left { (k : ℕ) → IsJTrivial k R.same → IsLTrivial k R.same }
 {}
 
 /// The ideals of an element are what walks from it lead to: in the right Cayley graph, in the left one, in one and then the other.
@@ -62,7 +62,7 @@ pub fn agreeing_relations_have_the_same_ideals<R: Relation, S: Relation>()
 
 /// Where the elements are numbers, the values of words, an ideal of the value of s is what products with it have as values.
 pub fn ideals_of_values()
-    ensures right { (k : ℕ) (value : List ℕ → ℕ) → IsCongruence k (λ u v. value u ≡ value v) → (s t : List ℕ) → Over k s → Over k t → IsInRight k (λ u v. value u ≡ value v) t s ↔ ((w y : List ℕ) × Over k w × Over k y × (value w ≡ value s) × (value (w ++ y) ≡ value t)) }
-    ensures left { (k : ℕ) (value : List ℕ → ℕ) → IsCongruence k (λ u v. value u ≡ value v) → (s t : List ℕ) → Over k s → Over k t → IsInLeft k (λ u v. value u ≡ value v) t s ↔ ((w x : List ℕ) × Over k w × Over k x × (value w ≡ value s) × (value (x ++ w) ≡ value t)) }
-    ensures two_sided { (k : ℕ) (value : List ℕ → ℕ) → IsCongruence k (λ u v. value u ≡ value v) → (s t : List ℕ) → Over k s → Over k t → IsInIdeal k (λ u v. value u ≡ value v) t s ↔ ((w x y : List ℕ) × Over k w × Over k x × Over k y × (value w ≡ value s) × (value (x ++ (w ++ y)) ≡ value t)) }
+    ensures right { (k : ℕ) (value : List ℕ → ℕ) → IsCongruence k (λ u v. value u ≡ value v) → (s t : List ℕ) → Over k s → IsInRight k (λ u v. value u ≡ value v) t s ↔ ((w y : List ℕ) × Over k w × Over k y × (value w ≡ value s) × (value (w ++ y) ≡ value t)) }
+    ensures left { (k : ℕ) (value : List ℕ → ℕ) → IsCongruence k (λ u v. value u ≡ value v) → (s t : List ℕ) → Over k s → IsInLeft k (λ u v. value u ≡ value v) t s ↔ ((w x : List ℕ) × Over k w × Over k x × (value w ≡ value s) × (value (x ++ w) ≡ value t)) }
+    ensures two_sided { (k : ℕ) (value : List ℕ → ℕ) → IsCongruence k (λ u v. value u ≡ value v) → (s t : List ℕ) → Over k s → IsInIdeal k (λ u v. value u ≡ value v) t s ↔ ((w x y : List ℕ) × Over k w × Over k x × Over k y × (value w ≡ value s) × (value (x ++ (w ++ y)) ≡ value t)) }
 {}

@@ -34,7 +34,7 @@ pub fn acceptance_is_decided()
 /// To lead to the same set of states is a right congruence, and such words are Nerode equivalent (the subset construction).
 pub fn subsets_refine_nerode()
     ensures right { (k : ℕ) (m : Automaton) → IsRightCongruence k (SameSubset m) }
-    ensures finer { (k : ℕ) (m : Automaton) (u v : List ℕ) → Over k u → Over k v → SameSubset m u v → Nerode k (Accepts m) u v }
+    ensures finer { (k : ℕ) (m : Automaton) (u v : List ℕ) → SameSubset m u v → Nerode k (Accepts m) u v }
 {}
 
 /// In a complete deterministic automaton a word leads from each state to exactly one state and reaches exactly one, and words are Nerode equivalent exactly where they reach states that accept the same words.

@@ -29,7 +29,7 @@ pub fn related_words_have_the_same_powers<R: Relation>()
 /// A finite monoid is aperiodic, or there is a first listed word with a period greater than 1, which is unique.
 pub fn a_finite_monoid_is_aperiodic_or_loops<R: Relation>()
     ensures either { (k : ℕ) (words : List (List ℕ)) → IsCongruence k R.same → AreRepresentatives k R.same words → IsAperiodic k R.same ⊎ ((e i p : ℕ) × IsFirstLoop R.same words e i p) }
-    ensures not_both { (k : ℕ) (words : List (List ℕ)) → IsCongruence k R.same → AreRepresentatives k R.same words → (e i p : ℕ) → IsFirstLoop R.same words e i p → ¬ IsAperiodic k R.same }
+    ensures not_both { (k : ℕ) (words : List (List ℕ)) → AreRepresentatives k R.same words → (e i p : ℕ) → IsFirstLoop R.same words e i p → ¬ IsAperiodic k R.same }
     ensures one { (words : List (List ℕ)) (e i p d j q : ℕ) → IsFirstLoop R.same words e i p → IsFirstLoop R.same words d j q → (e ≡ d) × (i ≡ j) × (p ≡ q) }
 {}
 

@@ -15,10 +15,10 @@ pub fn rules_are_unique<R: Relation>()
 
 /// The left sides of the rules are listed words with a letter behind. The word at i with the letter a is one where it is not listed, but is without its first letter; and these words rise with i, and then with a.
 pub fn rules_by_places<R: Relation>()
-    ensures at { (k : ℕ) (words : List (List ℕ)) → IsEquivalence k R.same → AreRepresentatives k R.same words → (left : List ℕ) (right : ℕ) → IsRule k R.same words left right → (i a : ℕ) × (i < length words) × (a < k) × (left ≡ word_at words i ++ a ∷ []) }
-    ensures longer { (k : ℕ) (words : List (List ℕ)) → IsEquivalence k R.same → AreRepresentatives k R.same words → (i a r b s t : ℕ) → a < k → i < length words → IsRight R.same words i a r → IsSuffixLink words i b s → IsRight R.same words s a t → IsRule k R.same words (word_at words i ++ a ∷ []) r ↔ (¬ (word_at words r ≡ word_at words i ++ a ∷ []) × (word_at words t ≡ word_at words s ++ a ∷ [])) }
+    ensures at { (k : ℕ) (words : List (List ℕ)) → AreRepresentatives k R.same words → (left : List ℕ) (right : ℕ) → IsRule k R.same words left right → (i a : ℕ) × (i < length words) × (a < k) × (left ≡ word_at words i ++ a ∷ []) }
+    ensures longer { (k : ℕ) (words : List (List ℕ)) → IsEquivalence k R.same → AreRepresentatives k R.same words → (i a r b s t : ℕ) → a < k → IsRight R.same words i a r → IsSuffixLink words i b s → IsRight R.same words s a t → IsRule k R.same words (word_at words i ++ a ∷ []) r ↔ (¬ (word_at words r ≡ word_at words i ++ a ∷ []) × (word_at words t ≡ word_at words s ++ a ∷ [])) }
     ensures letter { (k : ℕ) (words : List (List ℕ)) → IsEquivalence k R.same → AreRepresentatives k R.same words → (a r : ℕ) → a < k → IsRight R.same words 0 a r → IsRule k R.same words (a ∷ []) r ↔ ¬ (word_at words r ≡ a ∷ []) }
-    ensures rise { (k : ℕ) (words : List (List ℕ)) → IsEquivalence k R.same → AreRepresentatives k R.same words → (i j a b : ℕ) → j < length words → (i < j) ⊎ ((i ≡ j) × (a < b)) → (word_at words i ++ a ∷ []) ⊏ (word_at words j ++ b ∷ []) }
+    ensures rise { (k : ℕ) (words : List (List ℕ)) → AreRepresentatives k R.same words → (i j a b : ℕ) → j < length words → (i < j) ⊎ ((i ≡ j) × (a < b)) → (word_at words i ++ a ∷ []) ⊏ (word_at words j ++ b ∷ []) }
 {}
 
 /// A word that is not reduced has the left side of a rule as a factor, and so can be replaced.
@@ -29,7 +29,7 @@ pub fn unreduced_words_have_a_rule<R: Relation>()
 
 /// A replacement gives a word over the same letters that is smaller, and related in a congruence.
 pub fn replacements_make_words_smaller<R: Relation>()
-    ensures over { (k : ℕ) (words : List (List ℕ)) → IsEquivalence k R.same → AreRepresentatives k R.same words → (rules : List (List ℕ × ℕ)) → AreRules k R.same words rules → (u v : List ℕ) → Over k u → IsReplacement words rules u v → Over k v }
+    ensures over { (k : ℕ) (words : List (List ℕ)) → AreRepresentatives k R.same words → (rules : List (List ℕ × ℕ)) → AreRules k R.same words rules → (u v : List ℕ) → Over k u → IsReplacement words rules u v → Over k v }
     ensures smaller { (k : ℕ) (words : List (List ℕ)) → IsEquivalence k R.same → AreRepresentatives k R.same words → (rules : List (List ℕ × ℕ)) → AreRules k R.same words rules → (u v : List ℕ) → IsReplacement words rules u v → v ⊏ u }
     ensures related { (k : ℕ) (words : List (List ℕ)) → IsCongruence k R.same → AreRepresentatives k R.same words → (rules : List (List ℕ × ℕ)) → AreRules k R.same words rules → (u v : List ℕ) → Over k u → IsReplacement words rules u v → R.same u v }
 {}

@@ -1,7 +1,7 @@
 //! Laws of products, of the two Cayley graphs and of the links of a list of representatives.
 ghost use Rattle.std.specs.Prelude.{◌≡◌, ◌<◌, ◌↔◌, ◌++◌, ◌∷◌, [], ℕ, List, length, reverse};
 ghost use Rattle.language_theory.specs.Words.{Over, word_at};
-ghost use Rattle.language_theory.specs.Congruence.{IsCongruence};
+ghost use Rattle.language_theory.specs.Congruence.{IsEquivalence, IsCongruence};
 ghost use Rattle.language_theory.specs.Representatives.{IsPlaceOf, AreRepresentatives};
 ghost use Rattle.language_theory.specs.ShortlexGraph.{Graph, walk, node, IsGraphOf};
 ghost use Rattle.language_theory.specs.Products.{IsProduct, IsRight, IsLeft, IsRightGraph, IsLeftGraph, IsPrefixLink, IsSuffixLink};
@@ -10,7 +10,7 @@ use crate::language::Relation;
 
 /// Two places have exactly one product, which is the place of any two words of theirs, put together.
 pub fn products_are_unique<R: Relation>()
-    ensures exists { (k : ℕ) (words : List (List ℕ)) → IsCongruence k R.same → AreRepresentatives k R.same words → (i j : ℕ) → i < length words → j < length words → (r : ℕ) × IsProduct R.same words i j r }
+    ensures exists { (k : ℕ) (words : List (List ℕ)) → AreRepresentatives k R.same words → (i j : ℕ) → i < length words → j < length words → (r : ℕ) × IsProduct R.same words i j r }
     ensures one { (words : List (List ℕ)) (i j r s : ℕ) → IsProduct R.same words i j r → IsProduct R.same words i j s → r ≡ s }
     ensures any { (k : ℕ) (words : List (List ℕ)) → IsCongruence k R.same → AreRepresentatives k R.same words → (u v : List ℕ) (i j r : ℕ) → Over k u → Over k v → IsPlaceOf R.same words u i → IsPlaceOf R.same words v j → IsPlaceOf R.same words (u ++ v) r ↔ IsProduct R.same words i j r }
 {}
@@ -18,9 +18,9 @@ pub fn products_are_unique<R: Relation>()
 /// The product is associative, and the place of the empty word, which is 0, is its identity.
 pub fn products_form_a_monoid<R: Relation>()
     ensures associative { (k : ℕ) (words : List (List ℕ)) → IsCongruence k R.same → AreRepresentatives k R.same words → (i j m r s t : ℕ) → i < length words → j < length words → m < length words → IsProduct R.same words i j r → IsProduct R.same words r m s → IsProduct R.same words j m t → IsProduct R.same words i t s }
-    ensures empty { (k : ℕ) (words : List (List ℕ)) → IsCongruence k R.same → AreRepresentatives k R.same words → IsPlaceOf R.same words [] 0 }
-    ensures before { (k : ℕ) (words : List (List ℕ)) → IsCongruence k R.same → AreRepresentatives k R.same words → (j : ℕ) → j < length words → IsProduct R.same words 0 j j }
-    ensures behind { (k : ℕ) (words : List (List ℕ)) → IsCongruence k R.same → AreRepresentatives k R.same words → (i : ℕ) → i < length words → IsProduct R.same words i 0 i }
+    ensures empty { (k : ℕ) (words : List (List ℕ)) → IsEquivalence k R.same → AreRepresentatives k R.same words → IsPlaceOf R.same words [] 0 }
+    ensures before { (k : ℕ) (words : List (List ℕ)) → IsEquivalence k R.same → AreRepresentatives k R.same words → (j : ℕ) → j < length words → IsProduct R.same words 0 j j }
+    ensures behind { (k : ℕ) (words : List (List ℕ)) → IsEquivalence k R.same → AreRepresentatives k R.same words → (i : ℕ) → i < length words → IsProduct R.same words i 0 i }
 {}
 
 /// A letter behind or before any word of a place gives a word of the place that the right or the left Cayley graph has. The shortlex graph of a congruence is its right Cayley graph.
@@ -43,6 +43,6 @@ pub fn links_are_unique<R: Relation>()
     ensures suffix { (k : ℕ) (words : List (List ℕ)) → IsCongruence k R.same → AreRepresentatives k R.same words → (i : ℕ) → 0 < i → i < length words → (a s : ℕ) × (a < k) × IsSuffixLink words i a s }
     ensures one_prefix { (k : ℕ) (words : List (List ℕ)) → AreRepresentatives k R.same words → (i p a q b : ℕ) → IsPrefixLink words i p a → IsPrefixLink words i q b → (p ≡ q) × (a ≡ b) }
     ensures one_suffix { (k : ℕ) (words : List (List ℕ)) → AreRepresentatives k R.same words → (i a s b t : ℕ) → IsSuffixLink words i a s → IsSuffixLink words i b t → (a ≡ b) × (s ≡ t) }
-    ensures smaller_prefix { (k : ℕ) (words : List (List ℕ)) → AreRepresentatives k R.same words → (i p a : ℕ) → i < length words → IsPrefixLink words i p a → p < i }
-    ensures smaller_suffix { (k : ℕ) (words : List (List ℕ)) → AreRepresentatives k R.same words → (i a s : ℕ) → i < length words → IsSuffixLink words i a s → s < i }
+    ensures smaller_prefix { (k : ℕ) (words : List (List ℕ)) → AreRepresentatives k R.same words → (i p a : ℕ) → IsPrefixLink words i p a → p < i }
+    ensures smaller_suffix { (k : ℕ) (words : List (List ℕ)) → AreRepresentatives k R.same words → (i a s : ℕ) → IsSuffixLink words i a s → s < i }
 {}

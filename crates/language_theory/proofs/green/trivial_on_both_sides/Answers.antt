@@ -5,7 +5,7 @@ pub returns-clause-both : goal.returns-clause-both
 returns-clause-both g c k words q l = j_trivial_by_sides k g.R.Relation.same words q l
 
 pub returns-clause-right : goal.returns-clause-right
-returns-clause-right g c k q = r_trivial_by_j k g.R.Relation.same q
+returns-clause-right g c k = r_trivial_by_j k g.R.Relation.same
 
 pub returns-clause-left : goal.returns-clause-left
-returns-clause-left g c k q = l_trivial_by_j k g.R.Relation.same q
+returns-clause-left g c k = l_trivial_by_j k g.R.Relation.same

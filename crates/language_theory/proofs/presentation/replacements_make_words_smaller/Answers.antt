@@ -3,7 +3,7 @@ use Rattle.language_theory.proofs.Rewriting.{replacement_related}
 use Rattle.language_theory.proofs.presentation.replacements_make_words_smaller.Goals as goal
 
 pub returns-clause-over : goal.returns-clause-over
-returns-clause-over g c k words q l = replacement_over k g.R.Relation.same words q l
+returns-clause-over g c k words = replacement_over k g.R.Relation.same words
 
 pub returns-clause-smaller : goal.returns-clause-smaller
 returns-clause-smaller g c k words q l = replacement_falls k g.R.Relation.same words q l

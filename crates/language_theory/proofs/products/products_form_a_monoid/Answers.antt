@@ -5,7 +5,7 @@ pub returns-clause-associative : goal.returns-clause-associative
 returns-clause-associative g c k words q l = product_is_associative k g.R.Relation.same words q l
 
 pub returns-clause-empty : goal.returns-clause-empty
-returns-clause-empty g c k words q l = place_of_empty k g.R.Relation.same words q.equivalence l
+returns-clause-empty g c k words q l = place_of_empty k g.R.Relation.same words q l
 
 pub returns-clause-before : goal.returns-clause-before
 returns-clause-before g c k words q l = product_with_first k g.R.Relation.same words q l
