@@ -9,9 +9,9 @@ use regex_reader::positions;
 use std::alloc::Global;
 use syn_words::{Memory, Nfa};
 
-/// The automaton of a source: that of the file, or the position automaton of its expression. It accepts exactly the words
-/// of the source's language. Condition: an expression meets the condition of `positions` for the alphabet's number of
-/// letters.
+/// The automaton of a source: that of the file, or the position automaton of its expression. It accepts exactly the
+/// words of the source's language. Condition: an expression meets the condition of `positions` for the alphabet's
+/// number of letters.
 pub fn body_nfa(alloc: Global, source: &Source) -> Result<Nfa, Memory>
     requires { CanBuild (length source.now.alphabet) (body_text source.now.body) }
     ensures automaton { IfOk result (λ m. IsBodyAutomaton (length source.now.alphabet) (body_text source.now.body) m) }

@@ -26,7 +26,8 @@ pub fn spelled_or_refused()
     ensures one { (bytes : List ℕ) (s : SourceText) (at code : ℕ) → IsSource bytes s → ¬ IsRefusal bytes at code }
 {}
 
-/// The automaton of a body is determined, but for the order and the repetition of its steps: its states, its steps, its language, and which words lead to the same set of states.
+/// The automaton of a body is determined, but for the order and the repetition of its steps: its states, its steps,
+/// its language, and which words lead to the same set of states.
 pub fn one_automaton()
     ensures same { (k : ℕ) (body : BodyText) (m n : Automaton) → IsBodyAutomaton k body m → IsBodyAutomaton k body n → IsSameAutomaton m n }
     ensures subsets { (m n : Automaton) → IsSameAutomaton m n → (u v : List ℕ) → SameSubset m u v ↔ SameSubset n u v }

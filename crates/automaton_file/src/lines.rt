@@ -12,7 +12,8 @@ use crate::fields::first_field;
 /// What comes next in a text, by lines.
 #[derive(Clone, Copy, Debug, PartialEq, Eq)]
 pub enum LineGot {
-    /// A significant line: its number, counted from 1, the places of its bytes without the line's end, and the place where the next line begins.
+    /// A significant line: its number, counted from 1, the places of its bytes without the line's end, and the place
+    /// where the next line begins.
     Line {
         number: u32,
         from: u32,
@@ -38,9 +39,9 @@ struct Cut {
     whole: usize,
 }
 
-/// Finds the first line from `place` on that is significant or has a byte that isn't allowed.
-/// Condition: at most 1,048,576 bytes, and line `number` begins at `place`, or `place` is the length and `number` is the number of all lines plus 1.
-/// Takes no memory.
+/// Finds the first line from `place` on that is significant or has a byte that isn't allowed. Condition: at most
+/// 1,048,576 bytes, and line `number` begins at `place`, or `place` is the length and `number` is the number of all
+/// lines plus 1. Takes no memory.
 pub fn next_line(bytes: &[u8], place: u32, number: u32) -> LineGot
     requires short { length bytes.now ≤ most_bytes }
     requires place { place ≤ length bytes.now }

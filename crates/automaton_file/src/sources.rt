@@ -18,7 +18,8 @@ pub struct Source {
     pub body: Body,
 }
 
-/// Why a file isn't taken: the line, counted from 1, or 0 for the whole input, and the code of the first test that fails there.
+/// Why a file isn't taken: the line, counted from 1, or 0 for the whole input, and the code of the first test that
+/// fails there.
 ///
 /// - 1: the header isn't `synmon 1`.
 /// - 2: the alphabet isn't `alphabet` and 1 to 26 distinct lower-case letters.

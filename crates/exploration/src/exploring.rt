@@ -53,10 +53,10 @@ impl<T: Drop> From<AllocFailed<T>> for ExploreFault {
     }
 }
 
-/// Explores all states, breadth first and letters in order, and answers the shortlex graph of the relation "leads to the
-/// same state": its nodes are the states, numbered as the machine has numbered them. Condition: no state was seen yet, and
-/// the limit is below the greatest `u32`. `Limit` comes exactly where more distinct states than `limit` are reached over
-/// all words. Each state's successor is asked for once for each letter.
+/// Explores all states, breadth first and letters in order, and answers the shortlex graph of the relation "leads to
+/// the same state": its nodes are the states, numbered as the machine has numbered them. Condition: no state was seen
+/// yet, and the limit is below the greatest `u32`. `Limit` comes exactly where more distinct states than `limit` are
+/// reached over all words. Each state's successor is asked for once for each letter.
 pub fn explore<S: States>(
     alloc: Global,
     states: &mut S,
@@ -87,7 +87,7 @@ pub fn explore<S: States>(
     Ok(ShortlexGraph::new(states.len(), states.letters(), targets))
 }
 
-// Puts the targets of a node by each letter, in order, behind those of the nodes before it.
+/// Puts the targets of a node by each letter, in order, behind those of the nodes before it.
 fn expand<S: States>(
     states: &mut S,
     node: u32,
@@ -114,7 +114,7 @@ fn expand<S: States>(
     Ok(())
 }
 
-// Puts the target of a node by a letter behind the targets that were found before.
+/// Puts the target of a node by a letter behind the targets that were found before.
 fn follow<S: States>(
     states: &mut S,
     node: u32,

@@ -8,8 +8,8 @@ use std::alloc::Global;
 use std::marker::Model;
 use syn_words::{Memory, Word};
 
-/// A finite complete deterministic graph with root 0. Its value is the record `Graph`: the number of nodes, the number of
-/// letters, and the targets of node 0 by each letter, then those of node 1, and so on.
+/// A finite complete deterministic graph with root 0. Its value is the record `Graph`: the number of nodes, the number
+/// of letters, and the targets of node 0 by each letter, then those of node 1, and so on.
 #[derive(Debug, Drop)]
 pub struct ShortlexGraph {
     size: u32,
@@ -78,8 +78,8 @@ impl ShortlexGraph {
         node
     }
 
-    /// The least word of each node, in order (`IsShortlex`). Condition: the graph is a shortlex graph. Each word is that of
-    /// the node where the node first occurs as a target, with that letter behind it.
+    /// The least word of each node, in order (`IsShortlex`). Condition: the graph is a shortlex graph. Each word is
+    /// that of the node where the node first occurs as a target, with that letter behind it.
     pub fn least_words(&self, alloc: Global) -> Result<Vec<Word>, Memory>
         requires { (words : List (List ℕ)) × IsShortlex self.now words }
         ensures { IfOk result (λ v. IsShortlex self.now v.items) }
@@ -93,7 +93,7 @@ impl ShortlexGraph {
     }
 }
 
-// Lists the words of the nodes that first occur as targets of this node.
+/// Lists the words of the nodes that first occur as targets of this node.
 fn list_words_behind(graph: &ShortlexGraph, node: u32, words: &mut Vec<Word>) -> Result<(), Memory>
     requires listing { IsListing graph.now (node * graph.now.letters) words.old.items }
     requires node { node < graph.now.size }
@@ -105,7 +105,7 @@ fn list_words_behind(graph: &ShortlexGraph, node: u32, words: &mut Vec<Word>) ->
     Ok(())
 }
 
-// Lists the word of the node to which a letter leads, if this is the first place of that node.
+/// Lists the word of the node to which a letter leads, if this is the first place of that node.
 fn list_word_behind(
     graph: &ShortlexGraph,
     node: u32,
@@ -127,7 +127,7 @@ fn list_word_behind(
     Ok(())
 }
 
-// The word with a letter behind it.
+/// The word with a letter behind it.
 fn longer(word: &Word, letter: u8) -> Result<Word, Memory>
     ensures { IfOk result (λ w. w ≡ word.now ++ letter ∷ []) }
 {

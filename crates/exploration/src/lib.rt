@@ -1,5 +1,6 @@
-//! The one search of the workbench: states that are numbered as they are first seen are explored breadth first, letters in
-//! order, and give a shortlex graph. With it, the coarsest partition of such a graph and the graph of its classes.
+//! The one search of the workbench: states that are numbered as they are first seen are explored breadth first,
+//! letters in order, and give a shortlex graph. With it, the coarsest partition of such a graph and the graph of its
+//! classes.
 #![tactic(auto)]
 
 mod exploring;

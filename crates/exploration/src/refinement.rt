@@ -51,7 +51,7 @@ impl Partition {
         self.classes[node as usize]
     }
 
-    // Whether the classes are the same.
+    /// Whether the classes are the same.
     fn is_same(&self, other: &Partition) -> bool
         ensures { IsTrue result ↔ (self.now.classes ≡ other.now.classes) }
     {
@@ -59,7 +59,7 @@ impl Partition {
     }
 }
 
-// What a round sees of a node: its mark, its class, and the classes of its targets.
+/// What a round sees of a node: its mark, its class, and the classes of its targets.
 #[derive(Drop)]
 struct Signature {
     parts: Vec<u32>,
@@ -119,7 +119,7 @@ impl Signature {
     }
 }
 
-// Puts the classes of a node's targets behind what is there.
+/// Puts the classes of a node's targets behind what is there.
 pub(crate) fn push_target_classes(
     graph: &ShortlexGraph,
     classes: &[u32],
@@ -137,10 +137,10 @@ pub(crate) fn push_target_classes(
     Ok(())
 }
 
-/// The coarsest partition of the nodes that respects the marks and the letters: two nodes share a class exactly if no word
-/// tells them apart (Moore's algorithm). The classes are numbered in the order in which they first occur. Condition: there
-/// is a mark for each node. Each round takes time linear in nodes times letters, and there are at most as many rounds as
-/// nodes.
+/// The coarsest partition of the nodes that respects the marks and the letters: two nodes share a class exactly if no
+/// word tells them apart (Moore's algorithm). The classes are numbered in the order in which they first occur.
+/// Condition: there is a mark for each node. Each round takes time linear in nodes times letters, and there are at
+/// most as many rounds as nodes.
 pub fn refine(alloc: Global, graph: &ShortlexGraph, marks: &[bool]) -> Result<Partition, Memory>
     requires { length marks.now ≡ graph.now.size }
     ensures { IfOk result (λ p. IsCoarsest graph.now marks.now p.count p.classes) }
@@ -156,7 +156,7 @@ pub fn refine(alloc: Global, graph: &ShortlexGraph, marks: &[bool]) -> Result<Pa
     }
 }
 
-// One round: nodes stay together that have the same signature.
+/// One round: nodes stay together that have the same signature.
 fn split(
     alloc: Global,
     graph: &ShortlexGraph,

@@ -4,13 +4,14 @@ ghost use Rattle.exploration.specs.States.{AreNumbered, IsSameMachine, AreKept, 
 
 use syn_words::Memory;
 
-/// A machine that reads words over its letters and numbers its states from 0 as they are first seen. What a state is stays
-/// the machine's own matter: it says only which words lead to the same state.
+/// A machine that reads words over its letters and numbers its states from 0 as they are first seen. What a state is
+/// stays the machine's own matter: it says only which words lead to the same state.
 ///
-/// The meanings: `letters_of` is the number of letters, `same` holds of two words that lead to one state, `number` is the
-/// number of the state that a word leads to if that state was seen, `count` is how many states were seen. `is_sound` is
-/// what a machine needs to keep: its seen states are then numbered one to one (`numbered`). `is_later` holds of a machine
-/// and the same machine after more states were seen, with the same letters and the same relation (`later_keeps`).
+/// The meanings: `letters_of` is the number of letters, `same` holds of two words that lead to one state, `number` is
+/// the number of the state that a word leads to if that state was seen, `count` is how many states were seen.
+/// `is_sound` is what a machine needs to keep: its seen states are then numbered one to one (`numbered`). `is_later`
+/// holds of a machine and the same machine after more states were seen, with the same letters and the same relation
+/// (`later_keeps`).
 pub trait States {
     ghost letters_of: { Self → ℕ };
 
@@ -34,8 +35,8 @@ pub trait States {
         requires { is_sound self.now }
         ensures { result ≡ count self.now };
 
-    /// Sees the state of the empty word, which gets the number 0. Condition: no state was seen yet. Fault: want of memory,
-    /// after which no state was seen.
+    /// Sees the state of the empty word, which gets the number 0. Condition: no state was seen yet. Fault: want of
+    /// memory, after which no state was seen.
     fn start(&mut self) -> Result<u32, Memory>
         requires sound { is_sound self.old }
         requires none { count self.old ≡ 0 }
@@ -46,9 +47,9 @@ pub trait States {
         ensures empty { IfOk result (λ n. number self.new [] ≡ Option.Some n) }
         ensures err { OnErr result (count self.new ≡ 0) };
 
-    /// The number of the state to which a letter leads from the state with the number `state`; it is seen now, if it was not
-    /// before. Condition: the state was seen, the letter is one of the machine's, and one more state can be counted. Fault:
-    /// want of memory, after which the same states are seen as before.
+    /// The number of the state to which a letter leads from the state with the number `state`; it is seen now, if it
+    /// was not before. Condition: the state was seen, the letter is one of the machine's, and one more state can be
+    /// counted. Fault: want of memory, after which the same states are seen as before.
     fn step(&mut self, state: u32, letter: u8) -> Result<u32, Memory>
         requires sound { is_sound self.old }
         requires state { state < count self.old }

@@ -30,8 +30,8 @@ impl<'a> Model for TableStates<'a> {
 }
 
 impl<'a> TableStates<'a> {
-    /// The automaton with these targets: those of state 0 by each letter, then those of state 1, and so on. No state was
-    /// seen yet. Condition: the targets and the start are states, and there is a target for each state and letter.
+    /// The automaton with these targets: those of state 0 by each letter, then those of state 1, and so on. No state
+    /// was seen yet. Condition: the targets and the start are states, and there is a target for each state and letter.
     pub fn new(
         alloc: Global,
         states: u32,
@@ -62,7 +62,7 @@ impl<'a> TableStates<'a> {
         self.seen[number as usize]
     }
 
-    // The state to which a letter leads from a state.
+    /// The state to which a letter leads from a state.
     fn target(&self, state: u32, letter: u8) -> u32
         requires long { length self.now.targets ≡ self.now.states * self.now.letters }
         requires state { state < self.now.states }
@@ -72,7 +72,7 @@ impl<'a> TableStates<'a> {
         self.targets[state as usize * self.letters as usize + letter as usize]
     }
 
-    // Sees a state, if it was not seen before, and answers its number.
+    /// Sees a state, if it was not seen before, and answers its number.
     fn see(&mut self, state: u32) -> Result<u32, Memory>
         requires room { length self.old.seen < 2 ^ 32 - 1 }
         ensures seen { OnOk result (self.new ≡ record self.old { seen = insert_key nat_eq self.old.seen state }) }

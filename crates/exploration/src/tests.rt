@@ -7,8 +7,8 @@ use std::alloc::Global;
 use std::test::Fail;
 use syn_words::Memory;
 
-// `(ab)*` over ab, with two states for "accepts" (2 and 3), a state for "a was read" (4), a sink (1), and a state that no
-// word reaches (0).
+/// `(ab)*` over ab, with two states for "accepts" (2 and 3), a state for "a was read" (4), a sink (1), and a state
+/// that no word reaches (0).
 const AB_STAR: [u32; 10] = [0, 2, 1, 1, 4, 1, 4, 1, 1, 3];
 
 fn table(

@@ -30,7 +30,8 @@ pub fn r_and_l_are_kept_by_products<R: Relation>()
     ensures left { (k : ℕ) → IsCongruence k R.same → (w s t : List ℕ) → Over k w → Over k s → Over k t → IsL k R.same s t → IsL k R.same (s ++ w) (t ++ w) }
 {}
 
-/// In a finite monoid J is D, and a product that stays in the J-class of a factor stays in its R-class or L-class (Green).
+/// In a finite monoid J is D, and a product that stays in the J-class of a factor stays in its R-class or L-class
+/// (Green).
 pub fn j_is_d_in_a_finite_monoid<R: Relation>()
     ensures same { (k : ℕ) (words : List (List ℕ)) → IsCongruence k R.same → AreRepresentatives k R.same words → (s t : List ℕ) → Over k s → Over k t → IsJ k R.same s t ↔ IsD k R.same s t }
     ensures right { (k : ℕ) (words : List (List ℕ)) → IsCongruence k R.same → AreRepresentatives k R.same words → (s x : List ℕ) → Over k s → Over k x → IsInIdeal k R.same s (s ++ x) → IsR k R.same s (s ++ x) }
@@ -44,7 +45,8 @@ pub fn trivial_on_both_sides<R: Relation>()
     ensures left { (k : ℕ) → IsJTrivial k R.same → IsLTrivial k R.same }
 {}
 
-/// The ideals of an element are what walks from it lead to: in the right Cayley graph, in the left one, in one and then the other.
+/// The ideals of an element are what walks from it lead to: in the right Cayley graph, in the left one, in one and
+/// then the other.
 pub fn ideals_are_walks<R: Relation>()
     ensures right { (k : ℕ) (words : List (List ℕ)) → IsCongruence k R.same → AreRepresentatives k R.same words → (d : Graph) → IsRightGraph k R.same words d → (i j : ℕ) → i < length words → j < length words → IsInRight k R.same (word_at words j) (word_at words i) ↔ ((x : List ℕ) × Over k x × (walk d i x ≡ j)) }
     ensures left { (k : ℕ) (words : List (List ℕ)) → IsCongruence k R.same → AreRepresentatives k R.same words → (e : Graph) → IsLeftGraph k R.same words e → (i j : ℕ) → i < length words → j < length words → IsInLeft k R.same (word_at words j) (word_at words i) ↔ ((x : List ℕ) × Over k x × (walk e i x ≡ j)) }
@@ -60,7 +62,8 @@ pub fn agreeing_relations_have_the_same_ideals<R: Relation, S: Relation>()
     ensures product { (k : ℕ) → ((u v : List ℕ) → Over k u → Over k v → R.same u v ↔ S.same u v) → (s t : List ℕ) → Over k s → Over k t → IsD k R.same s t → IsD k S.same s t }
 {}
 
-/// Where the elements are numbers, the values of words, an ideal of the value of s is what products with it have as values.
+/// Where the elements are numbers, the values of words, an ideal of the value of s is what products with it have as
+/// values.
 pub fn ideals_of_values()
     ensures right { (k : ℕ) (value : List ℕ → ℕ) → IsCongruence k (λ u v. value u ≡ value v) → (s t : List ℕ) → Over k s → IsInRight k (λ u v. value u ≡ value v) t s ↔ ((w y : List ℕ) × Over k w × Over k y × (value w ≡ value s) × (value (w ++ y) ≡ value t)) }
     ensures left { (k : ℕ) (value : List ℕ → ℕ) → IsCongruence k (λ u v. value u ≡ value v) → (s t : List ℕ) → Over k s → IsInLeft k (λ u v. value u ≡ value v) t s ↔ ((w x : List ℕ) × Over k w × Over k x × (value w ≡ value s) × (value (x ++ w) ≡ value t)) }

@@ -1,4 +1,5 @@
-//! The mathematics of the workbench: its definitions stand in `specs/`, its laws are the contracts of this crate's functions.
+//! The mathematics of the workbench: its definitions stand in `specs/`, its laws are the contracts of this crate's
+//! functions.
 #![tactic(auto)]
 
 pub mod equivalences;

@@ -9,7 +9,8 @@ ghost use Rattle.language_theory.specs.ShortlexGraph.{Graph, node, target, walk,
 
 use crate::language::Language;
 
-/// Minimising: of a shortlex graph whose marked nodes are those of the language's words, the quotient by the coarsest partition is the minimal automaton.
+/// Minimising: of a shortlex graph whose marked nodes are those of the language's words, the quotient by the coarsest
+/// partition is the minimal automaton.
 pub fn coarsest_quotient_is_minimal<L: Language>()
     ensures { (k : ℕ) (g q : Graph) (words first : List (List ℕ)) (marks finals : List Bool) (count : ℕ) (classes : List ℕ) → IsShortlex g words → g.letters ≡ k → ((w : List ℕ) → Over k w → IsTrue (is_marked marks (node g w)) ↔ L.has w) → IsCoarsest g marks count classes → IsQuotient g count classes q → AreFirstWords count classes words first → length finals ≡ count → ((i : ℕ) → i < g.size → is_marked finals (slice_index classes i) ≡ is_marked marks i) → IsMinimal k L.has (record { graph = q; finals = finals; words = first }) }
 {}
@@ -20,7 +21,8 @@ pub fn one_minimal_automaton<L: Language, M: Language>()
     ensures agreeing { (k : ℕ) (d : MinimalAutomaton) → ((w : List ℕ) → Over k w → L.has w ↔ M.has w) → IsMinimal k L.has d → IsMinimal k M.has d }
 {}
 
-/// In the minimal automaton words are Nerode equivalent exactly where they lead from the root to one node, and syntactically congruent exactly where they lead from each node to one node.
+/// In the minimal automaton words are Nerode equivalent exactly where they lead from the root to one node, and
+/// syntactically congruent exactly where they lead from each node to one node.
 pub fn minimal_nodes_tell_words_apart<L: Language>()
     ensures nerode { (k : ℕ) (d : MinimalAutomaton) → IsMinimal k L.has d → (u v : List ℕ) → Over k u → Over k v → Nerode k L.has u v ↔ SameNode d.graph u v }
     ensures syntactic { (k : ℕ) (d : MinimalAutomaton) → IsMinimal k L.has d → (u v : List ℕ) → Over k u → Over k v → Syntactic k L.has u v ↔ ((i : ℕ) → i < d.graph.size → walk d.graph i u ≡ walk d.graph i v) }

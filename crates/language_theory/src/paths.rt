@@ -8,7 +8,8 @@ ghost use Rattle.language_theory.specs.Runs.{IsRun};
 ghost use Rattle.language_theory.specs.Congruence.{IsRightCongruence};
 ghost use Rattle.language_theory.specs.Nerode.{Nerode};
 
-/// A word is accepted exactly where a list of states, one more than it has letters, begins with an initial and ends with a final one, with a step by each letter from a state to the next.
+/// A word is accepted exactly where a list of states, one more than it has letters, begins with an initial and ends
+/// with a final one, with a step by each letter from a state to the next.
 pub fn acceptance_is_by_runs()
     ensures { (m : Automaton) (w : List ℕ) → Accepts m w ↔ ((states : List ℕ) × IsRun m w states) }
 {}
@@ -31,13 +32,15 @@ pub fn acceptance_is_decided()
     ensures { (m : Automaton) (w : List ℕ) → Accepts m w ⊎ ¬ Accepts m w }
 {}
 
-/// To lead to the same set of states is a right congruence, and such words are Nerode equivalent (the subset construction).
+/// To lead to the same set of states is a right congruence, and such words are Nerode equivalent (the subset
+/// construction).
 pub fn subsets_refine_nerode()
     ensures right { (k : ℕ) (m : Automaton) → IsRightCongruence k (SameSubset m) }
     ensures finer { (k : ℕ) (m : Automaton) (u v : List ℕ) → SameSubset m u v → Nerode k (Accepts m) u v }
 {}
 
-/// In a complete deterministic automaton a word leads from each state to exactly one state and reaches exactly one, and words are Nerode equivalent exactly where they reach states that accept the same words.
+/// In a complete deterministic automaton a word leads from each state to exactly one state and reaches exactly one,
+/// and words are Nerode equivalent exactly where they reach states that accept the same words.
 pub fn deterministic_automata_have_one_path()
     ensures leads { (m : Automaton) → IsCompleteDeterministic m → (w : List ℕ) (p : ℕ) → p < m.states → Over m.letters w → (q : ℕ) × IsOnly (Leads m p w) q }
     ensures reaches { (m : Automaton) → IsCompleteDeterministic m → (w : List ℕ) → Over m.letters w → (q : ℕ) × IsOnly (IsReached m w) q }

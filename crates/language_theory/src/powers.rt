@@ -33,7 +33,8 @@ pub fn a_finite_monoid_is_aperiodic_or_loops<R: Relation>()
     ensures one { (words : List (List ℕ)) (e i p d j q : ℕ) → IsFirstLoop R.same words e i p → IsFirstLoop R.same words d j q → (e ≡ d) × (i ≡ j) × (p ≡ q) }
 {}
 
-/// A word x whose period is greater than 1 never settles, between the words of the least context that separates x^i from x^(i+1), where i is its index.
+/// A word x whose period is greater than 1 never settles, between the words of the least context that separates x^i
+/// from x^(i+1), where i is its index.
 pub fn loops_never_settle<L: Language>()
     ensures { (k : ℕ) (d : MinimalAutomaton) → IsMinimal k L.has d → (x : List ℕ) (i p : ℕ) → Over k x → IsIndexAndPeriod (Syntactic k L.has) x i p → 1 < p → (u v : List ℕ) × IsSeparation k L.has (power i x) (power (i + 1) x) u v × NeverSettle L.has u x v }
 {}
@@ -43,7 +44,8 @@ pub fn separated_powers_never_settle<L: Language>()
     ensures { (k : ℕ) (u x v : List ℕ) → Over k u → Over k x → Over k v → (i p : ℕ) → IsIndexAndPeriod (Syntactic k L.has) x i p → Separates L.has (power i x) (power (i + 1) x) u v → NeverSettle L.has u x v }
 {}
 
-/// Where the period of x is 1, or the syntactic congruence is aperiodic with finitely many classes, u, x and v do not fail to settle.
+/// Where the period of x is 1, or the syntactic congruence is aperiodic with finitely many classes, u, x and v do not
+/// fail to settle.
 pub fn aperiodic_powers_settle<L: Language>()
     ensures one { (k : ℕ) (u x v : List ℕ) → Over k u → Over k x → Over k v → (i : ℕ) → IsIndexAndPeriod (Syntactic k L.has) x i 1 → ¬ NeverSettle L.has u x v }
     ensures all { (k : ℕ) (u x v : List ℕ) → Over k u → Over k x → Over k v → (words : List (List ℕ)) → AreRepresentatives k (Syntactic k L.has) words → IsAperiodic k (Syntactic k L.has) → ¬ NeverSettle L.has u x v }

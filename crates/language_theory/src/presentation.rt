@@ -13,7 +13,8 @@ pub fn rules_are_unique<R: Relation>()
     ensures { (k : ℕ) (words : List (List ℕ)) (xs ys : List (List ℕ × ℕ)) → AreRules k R.same words xs → AreRules k R.same words ys → xs ≡ ys }
 {}
 
-/// The left sides of the rules are listed words with a letter behind. The word at i with the letter a is one where it is not listed, but is without its first letter; and these words rise with i, and then with a.
+/// The left sides of the rules are listed words with a letter behind. The word at i with the letter a is one where it
+/// is not listed, but is without its first letter; and these words rise with i, and then with a.
 pub fn rules_by_places<R: Relation>()
     ensures at { (k : ℕ) (words : List (List ℕ)) → AreRepresentatives k R.same words → (left : List ℕ) (right : ℕ) → IsRule k R.same words left right → (i a : ℕ) × (i < length words) × (a < k) × (left ≡ word_at words i ++ a ∷ []) }
     ensures longer { (k : ℕ) (words : List (List ℕ)) → IsEquivalence k R.same → AreRepresentatives k R.same words → (i a r b s t : ℕ) → a < k → IsRight R.same words i a r → IsSuffixLink words i b s → IsRight R.same words s a t → IsRule k R.same words (word_at words i ++ a ∷ []) r ↔ (¬ (word_at words r ≡ word_at words i ++ a ∷ []) × (word_at words t ≡ word_at words s ++ a ∷ [])) }
@@ -34,7 +35,8 @@ pub fn replacements_make_words_smaller<R: Relation>()
     ensures related { (k : ℕ) (words : List (List ℕ)) → IsCongruence k R.same → AreRepresentatives k R.same words → (rules : List (List ℕ × ℕ)) → AreRules k R.same words rules → (u v : List ℕ) → Over k u → IsReplacement words rules u v → R.same u v }
 {}
 
-/// The rules present the monoid: rewriting leads each word to the listed word of its class, so words are related exactly where they are rewritten to one listed word.
+/// The rules present the monoid: rewriting leads each word to the listed word of its class, so words are related
+/// exactly where they are rewritten to one listed word.
 pub fn rules_present_the_monoid<R: Relation>()
     ensures reduces { (k : ℕ) (words : List (List ℕ)) → IsCongruence k R.same → AreRepresentatives k R.same words → (rules : List (List ℕ × ℕ)) → AreRules k R.same words rules → (w : List ℕ) → Over k w → (i : ℕ) → IsPlaceOf R.same words w i → Rewrites words rules w (word_at words i) }
     ensures decides { (k : ℕ) (words : List (List ℕ)) → IsCongruence k R.same → AreRepresentatives k R.same words → (rules : List (List ℕ × ℕ)) → AreRules k R.same words rules → (u v : List ℕ) → Over k u → Over k v → R.same u v ↔ ((i : ℕ) × (i < length words) × Rewrites words rules u (word_at words i) × Rewrites words rules v (word_at words i)) }

@@ -23,7 +23,8 @@ pub fn products_form_a_monoid<R: Relation>()
     ensures behind { (k : ℕ) (words : List (List ℕ)) → IsEquivalence k R.same → AreRepresentatives k R.same words → (i : ℕ) → i < length words → IsProduct R.same words i 0 i }
 {}
 
-/// A letter behind or before any word of a place gives a word of the place that the right or the left Cayley graph has. The shortlex graph of a congruence is its right Cayley graph.
+/// A letter behind or before any word of a place gives a word of the place that the right or the left Cayley graph
+/// has. The shortlex graph of a congruence is its right Cayley graph.
 pub fn letters_act_on_places<R: Relation>()
     ensures right { (k : ℕ) (words : List (List ℕ)) → IsCongruence k R.same → AreRepresentatives k R.same words → (w : List ℕ) (i a r : ℕ) → Over k w → a < k → IsPlaceOf R.same words w i → IsPlaceOf R.same words (w ++ a ∷ []) r ↔ IsRight R.same words i a r }
     ensures left { (k : ℕ) (words : List (List ℕ)) → IsCongruence k R.same → AreRepresentatives k R.same words → (w : List ℕ) (a i r : ℕ) → Over k w → a < k → IsPlaceOf R.same words w i → IsPlaceOf R.same words (a ∷ w) r ↔ IsLeft R.same words a i r }
@@ -31,13 +32,15 @@ pub fn letters_act_on_places<R: Relation>()
     ensures node { (k : ℕ) (d : Graph) (words : List (List ℕ)) → IsGraphOf k R.same d words → (w : List ℕ) → Over k w → IsPlaceOf R.same words w (node d w) }
 {}
 
-/// A walk in the right Cayley graph multiplies by its word on the right, and a walk in the left one by its reversed word on the left.
+/// A walk in the right Cayley graph multiplies by its word on the right, and a walk in the left one by its reversed
+/// word on the left.
 pub fn walks_are_products<R: Relation>()
     ensures right { (k : ℕ) (words : List (List ℕ)) → IsCongruence k R.same → AreRepresentatives k R.same words → (d : Graph) → IsRightGraph k R.same words d → (x : List ℕ) (i : ℕ) → i < length words → Over k x → IsPlaceOf R.same words (word_at words i ++ x) (walk d i x) }
     ensures left { (k : ℕ) (words : List (List ℕ)) → IsCongruence k R.same → AreRepresentatives k R.same words → (d : Graph) → IsLeftGraph k R.same words d → (x : List ℕ) (i : ℕ) → i < length words → Over k x → IsPlaceOf R.same words (reverse x ++ word_at words i) (walk d i x) }
 {}
 
-/// Each listed word but the first is a listed word and a last letter, and a first letter and a listed word, each in one way, and the listed words stand before it.
+/// Each listed word but the first is a listed word and a last letter, and a first letter and a listed word, each in
+/// one way, and the listed words stand before it.
 pub fn links_are_unique<R: Relation>()
     ensures prefix { (k : ℕ) (words : List (List ℕ)) → IsCongruence k R.same → AreRepresentatives k R.same words → (i : ℕ) → 0 < i → i < length words → (p a : ℕ) × (a < k) × IsPrefixLink words i p a }
     ensures suffix { (k : ℕ) (words : List (List ℕ)) → IsCongruence k R.same → AreRepresentatives k R.same words → (i : ℕ) → 0 < i → i < length words → (a s : ℕ) × (a < k) × IsSuffixLink words i a s }

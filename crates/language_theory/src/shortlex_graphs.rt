@@ -14,19 +14,22 @@ pub fn walks_follow_words()
     ensures right { (g : Graph) → IsRightCongruence g.letters (SameNode g) }
 {}
 
-/// Two shortlex graphs of one relation are equal, with equal words; so are those of relations that agree on the words over k letters.
+/// Two shortlex graphs of one relation are equal, with equal words; so are those of relations that agree on the words
+/// over k letters.
 pub fn one_shortlex_graph<R: Relation, S: Relation>()
     ensures one { (k : ℕ) (g h : Graph) (xs ys : List (List ℕ)) → IsGraphOf k R.same g xs → IsGraphOf k R.same h ys → (g ≡ h) × (xs ≡ ys) }
     ensures agreeing { (k : ℕ) (g h : Graph) (xs ys : List (List ℕ)) → ((u v : List ℕ) → Over k u → Over k v → R.same u v ↔ S.same u v) → IsGraphOf k R.same g xs → IsGraphOf k S.same h ys → (g ≡ h) × (xs ≡ ys) }
 {}
 
-/// The word of the root is empty, and the least word of a node without its last letter is the least word of the node to which it leads.
+/// The word of the root is empty, and the least word of a node without its last letter is the least word of the node
+/// to which it leads.
 pub fn least_words_are_closed_under_prefixes()
     ensures root { (g : Graph) (words : List (List ℕ)) → IsShortlex g words → word_at words 0 ≡ [] }
     ensures prefix { (g : Graph) (words : List (List ℕ)) (i : ℕ) (u : List ℕ) (a : ℕ) → IsShortlex g words → word_at words i ≡ u ++ a ∷ [] → word_at words (node g u) ≡ u }
 {}
 
-/// A graph is a shortlex graph where its words begin with the empty one, rise, lead to their nodes, and no word of a node with one letter more is smaller than the word of the node to which it leads.
+/// A graph is a shortlex graph where its words begin with the empty one, rise, lead to their nodes, and no word of a
+/// node with one letter more is smaller than the word of the node to which it leads.
 pub fn letters_show_a_shortlex_graph()
     ensures { (g : Graph) (words : List (List ℕ)) → IsGraph g → length words ≡ g.size → ((i : ℕ) → i < g.size → Over g.letters (word_at words i)) → ((i : ℕ) → i < g.size → node g (word_at words i) ≡ i) → ((i j : ℕ) → i < j → j < g.size → word_at words i ⊏ word_at words j) → word_at words 0 ≡ [] → ((i a : ℕ) → i < g.size → a < g.letters → ¬ ((word_at words i ++ a ∷ []) ⊏ word_at words (target g i a))) → IsShortlex g words }
 {}
@@ -37,7 +40,8 @@ pub fn classes_have_first_nodes()
     ensures one { (classes : List ℕ) (c i j : ℕ) → IsFirst classes c i → IsFirst classes c j → i ≡ j }
 {}
 
-/// The quotient of a shortlex graph by a partition is a shortlex graph, whose words are those of the classes' first nodes, and a word leads there to the class of the node to which it led.
+/// The quotient of a shortlex graph by a partition is a shortlex graph, whose words are those of the classes' first
+/// nodes, and a word leads there to the class of the node to which it led.
 pub fn quotients_are_shortlex_graphs()
     ensures shortlex { (g q : Graph) (words first : List (List ℕ)) (count : ℕ) (classes : List ℕ) → IsShortlex g words → IsPartition g count classes → IsQuotient g count classes q → AreFirstWords count classes words first → IsShortlex q first }
     ensures node { (g q : Graph) (words first : List (List ℕ)) (count : ℕ) (classes : List ℕ) → IsShortlex g words → IsPartition g count classes → IsQuotient g count classes q → AreFirstWords count classes words first → (w : List ℕ) → Over g.letters w → node q w ≡ slice_index classes (node g w) }

@@ -8,7 +8,8 @@ ghost use Rattle.language_theory.specs.Languages.{IsLeastWord};
 
 use crate::language::Language;
 
-/// Shortlex is a strict total order of the words: of two different words exactly one comes first. None comes before the empty word.
+/// Shortlex is a strict total order of the words: of two different words exactly one comes first. None comes before
+/// the empty word.
 pub fn shortlex_is_a_total_order()
     ensures total { IsTotalOrder shortlex }
     ensures strict { (u : List ℕ) → ¬ (u ⊏ u) }

@@ -6,7 +6,8 @@ use std::alloc::{AllocError, AllocFailed};
 use syn_words::Memory;
 use thiserror::Error;
 
-/// The first failing test of a text, and its place: the number of the byte, counted from 0, or the text's length for its end.
+/// The first failing test of a text, and its place: the number of the byte, counted from 0, or the text's length for
+/// its end.
 #[derive(Debug, Drop, Error)]
 pub enum ExprFault {
     /// A byte that is no sign or may not stand there, or the text ends too early.

@@ -141,9 +141,10 @@ fn build(
 /// The position automaton of an expression over the first `letters` letters. It accepts exactly the expression's words.
 ///
 /// Condition: the expression has at most 4,000 nodes, `letters` is from 1 to 60, and every letter is below `letters`.
-/// State 0 is the only initial state, and state i is the i-th letter sign from the left. A step leads from 0 to each sign that can begin a word,
-/// and from a sign to each that can follow it, where each sign counts as a letter of its own: a sign that stands in no word has no step.
-/// Final are the signs that can end a word, and 0 where the empty word belongs (Glushkov).
+/// State 0 is the only initial state, and state i is the i-th letter sign from the left. A step leads from 0 to each
+/// sign that can begin a word, and from a sign to each that can follow it, where each sign counts as a letter of its
+/// own: a sign that stands in no word has no step. Final are the signs that can end a word, and 0 where the empty word
+/// belongs (Glushkov).
 pub fn positions(alloc: Global, expr: &Expr, letters: u32) -> Result<Nfa, Memory>
     requires within { IsWithin letters (tree_of expr.now) }
     requires some { 1 ≤ letters }

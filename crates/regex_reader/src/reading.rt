@@ -14,10 +14,10 @@ use syn_words::Alphabet;
 
 /// The expression that a text spells.
 ///
-/// The signs are the letters of the alphabet, `0` (no word), `1` (the empty word), `|` (union), juxtaposition (concatenation),
-/// the postfix signs `*` (any number of times), `+` (once or more) and `?` (once or not), and parentheses. Spaces and tabs are skipped.
-/// A postfix sign binds tightest, then juxtaposition, then `|`; both group to the left.
-/// At most 200 parentheses are open at once, and the tree has at most 4,000 nodes.
+/// The signs are the letters of the alphabet, `0` (no word), `1` (the empty word), `|` (union), juxtaposition
+/// (concatenation), the postfix signs `*` (any number of times), `+` (once or more) and `?` (once or not), and
+/// parentheses. Spaces and tabs are skipped. A postfix sign binds tightest, then juxtaposition, then `|`; both group
+/// to the left. At most 200 parentheses are open at once, and the tree has at most 4,000 nodes.
 ///
 /// Each fault but `Memory` comes exactly where the tests, taken at one byte after the other, first fail with it there.
 pub fn read_expr(alloc: Global, text: &[u8], alphabet: &Alphabet) -> Result<Expr, ExprFault>

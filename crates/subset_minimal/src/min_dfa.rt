@@ -9,8 +9,8 @@ use exploration::ShortlexGraph;
 use std::marker::Model;
 use syn_words::Word;
 
-/// A minimal automaton: its states are the Nerode classes of a language, in shortlex order of their least words. Its value
-/// is the record `MinimalAutomaton`.
+/// A minimal automaton: its states are the Nerode classes of a language, in shortlex order of their least words. Its
+/// value is the record `MinimalAutomaton`.
 #[derive(Drop)]
 pub struct MinDfa {
     graph: ShortlexGraph,

@@ -48,8 +48,8 @@ impl StateSet {
         self.marks[state as usize]
     }
 
-    /// The set of the states to which the steps with a letter lead from the states of this one. Condition: a place for each
-    /// state, and a letter in range. It takes time linear in the states and in the targets of the set's members.
+    /// The set of the states to which the steps with a letter lead from the states of this one. Condition: a place for
+    /// each state, and a letter in range. It takes time linear in the states and in the targets of the set's members.
     pub(crate) fn successor(&self, targets: &Targets<'_>, letter: u8) -> Result<StateSet, Memory>
         requires sized { IsSized targets.now }
         requires long { length self.now ≡ targets.now.states }
@@ -103,7 +103,7 @@ impl Hash for StateSet {
     }
 }
 
-// Adds states to a set. Condition: it has a place for each of them.
+/// Adds states to a set. Condition: it has a place for each of them.
 fn add_all(marks: &mut [bool], states: &[u32])
     requires { All (λ q. q < length marks.old) states.now }
     ensures { AreAdded marks.old states.now marks.new }

@@ -74,7 +74,7 @@ impl<'a> Subsets<'a> {
         Ok(marks)
     }
 
-    // Whether the set that has a number has a final state.
+    /// Whether the set that has a number has a final state.
     fn has_final(&self, number: u32) -> bool
         requires sound { AreSubsets self.now }
         requires number { number < length self.now.seen }
@@ -83,7 +83,7 @@ impl<'a> Subsets<'a> {
         self.set(number).has_final(self.nfa)
     }
 
-    // The set to which a letter leads from the set that has a number.
+    /// The set to which a letter leads from the set that has a number.
     fn next(&self, number: u32, letter: u8) -> Result<StateSet, Memory>
         requires sound { AreSubsets self.now }
         requires number { number < length self.now.seen }
@@ -94,7 +94,7 @@ impl<'a> Subsets<'a> {
         Ok(next)
     }
 
-    // Sees a set, if it was not seen before, and answers its number.
+    /// Sees a set, if it was not seen before, and answers its number.
     fn see(&mut self, set: StateSet) -> Result<u32, Memory>
         requires room { length self.old.seen < 2 ^ 32 - 1 }
         ensures seen { OnOk result (self.new ≡ record self.old { seen = insert_key (pointwise beq) self.old.seen set }) }

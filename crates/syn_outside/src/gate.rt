@@ -15,7 +15,7 @@ impl Gate for OpenGate {
     fn enter(&self, _part: u64) {}
 }
 
-// An open gate is handed to several workers: this call is proved only where that is allowed.
+/// An open gate is handed to several workers: this call is proved only where that is allowed.
 fn is_shared<T: Send + Sync>(_gate: &T) {}
 
 fn open_gate_is_shared(gate: &OpenGate) {

@@ -30,7 +30,7 @@ pub struct MemFiles {
     bytes: Vec<u8>,
     step: u64,
     calls: FailingCalls,
-    // How many bytes of the started file were read.
+    /// How many bytes of the started file were read.
     started: Option<usize>,
 }
 

@@ -23,7 +23,7 @@ pub struct MemSink {
     room: u32,
     step: u64,
     calls: FailingCalls,
-    // How many writes were refused because the room was full.
+    /// How many writes were refused because the room was full.
     refused: u64,
 }
 

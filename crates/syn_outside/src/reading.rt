@@ -22,7 +22,7 @@ pub enum ReadFault {
     Memory,
 }
 
-// The most bytes that one read asks for.
+/// The most bytes that one read asks for.
 const PIECE: usize = 4096;
 
 /// Reads the file of this name, or its first `max + 1` bytes if it is longer, and keeps no more.
@@ -51,7 +51,7 @@ pub fn read_all<F: Files>(
     }
 }
 
-// Reads the started file to its end, or until there are `most` bytes.
+/// Reads the started file to its end, or until there are `most` bytes.
 fn read_started<F: Files>(alloc: Global, files: &mut F, most: usize) -> Result<Vec<u8>, ReadFault>
     requires { F.ready files.old ≡ true }
     ensures files { F.held files.new ≡ F.held files.old }

@@ -5,7 +5,7 @@ use std::test::Fail;
 
 const TEXT: &str = "twenty-six bytes of a text";
 
-// The first letter of the fault, so that rows can be compared.
+/// A fault as a word, so that rows can be compared.
 fn sign(fault: ReadFault) -> &'static str {
     match fault {
         ReadFault::Missing => "missing",

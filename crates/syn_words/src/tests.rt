@@ -85,6 +85,26 @@ fn two_starts(alloc: Global) -> Result<Nfa, Memory>
 }
 
 #[test]
+fn copies_automata(rt: HostRuntime) -> Result<(), Fail> {
+    let nfa = two_starts(rt.alloc())?;
+    let copy = nfa.copy()?;
+    assert_eq!(rt; copy.letters(), 2);
+    assert_eq!(rt; copy.steps(), nfa.steps());
+    let marks = [
+        (true, true),
+        (true, false),
+        (false, false),
+        (false, false),
+        (false, false),
+    ];
+    for (state, (initial, is_final)) in marks.iter().enumerate() {
+        assert_eq!(rt; copy.is_initial(state as u32), *initial);
+        assert_eq!(rt; copy.is_final(state as u32), *is_final);
+    }
+    Ok(())
+}
+
+#[test]
 fn accepts_words(rt: HostRuntime) -> Result<(), Fail> {
     let nfa = two_starts(rt.alloc())?;
     let rows: [(&[u8], bool); 6] = [

@@ -1,4 +1,5 @@
-//! The program: it hands the words of its command line and the devices of the system to `run`, and ends with its status.
+//! The program: it hands the words of its command line and the devices of the system to `run`, and ends with its
+//! status.
 #![tactic(auto)]
 
 ghost use Rattle.std.specs.Prelude.{◌≡◌, ◌≢◌};
@@ -9,12 +10,12 @@ use std::process::ExitCode;
 use std::rt::Env;
 use syn_outside::{OpenGate, RealFiles, RealSink};
 
-// The words after the program's name.
+/// The words after the program's name.
 fn words<R: Env + AllocGlobal>(rt: &R) -> io::Result<Vec<String>> {
     Ok(env::args(rt)?.skip(1).collect(rt.alloc())?)
 }
 
-// The status where the system does not give the words: 7 if it had no memory for them, else 8.
+/// The status where the system does not give the words: 7 if it had no memory for them, else 8.
 fn status_without_words(fault: ErrorKind) -> u8
     ensures memory { fault ≡ ErrorKind.OutOfMemory → result ≡ 7 }
     ensures other { fault ≢ ErrorKind.OutOfMemory → result ≡ 8 }

@@ -61,7 +61,7 @@ pub fn tell<E: Sink>(errs: &mut E, ending: Ending)
     }
 }
 
-// Writes the line and the code of a refusal.
+/// Writes the line and the code of a refusal.
 fn tell_refusal<E: Sink>(errs: &mut E, line: u32, code: u8)
     ensures told { IsTold (E.written errs.old) (E.written errs.new) (E.faults errs.old) (E.faults errs.new) (refusal_line line code) }
     ensures count { E.faults errs.old ≤ E.faults errs.new }
@@ -73,7 +73,7 @@ fn tell_refusal<E: Sink>(errs: &mut E, line: u32, code: u8)
     tell_parts(errs, &["synmon: line ", line, " code ", code, "\n"])
 }
 
-// Writes the line of a limit on the sets of states.
+/// Writes the line of a limit on the sets of states.
 fn tell_limit<E: Sink>(errs: &mut E, subsets: u32)
     ensures told { IsTold (E.written errs.old) (E.written errs.new) (E.faults errs.old) (E.faults errs.new) (limit_line subsets) }
     ensures count { E.faults errs.old ≤ E.faults errs.new }
@@ -85,7 +85,7 @@ fn tell_limit<E: Sink>(errs: &mut E, subsets: u32)
     )
 }
 
-// Writes the parts of a line, one after another until the sink fails.
+/// Writes the parts of a line, one after another until the sink fails.
 fn tell_parts<E: Sink>(errs: &mut E, parts: &[&str])
     ensures told { IsTold (E.written errs.old) (E.written errs.new) (E.faults errs.old) (E.faults errs.new) (concat (map (λ part. part.now) parts.now)) }
     ensures count { E.faults errs.old ≤ E.faults errs.new }

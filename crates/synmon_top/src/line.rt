@@ -2,11 +2,13 @@
 ghost use Rattle.std.specs.Prelude.{◌≡◌, ◌≤◌, ℕ, map, decimal, IfSome, IsNone, string_bytes};
 ghost use Rattle.synmon_top.specs.Line.{IsLine, AreAccepted, AreOptions};
 
-// The range of `--subsets`, and its number where it is not given.
+/// The smallest number of `--subsets`.
 const LEAST_SUBSETS: u32 = 1;
 
+/// The largest number of `--subsets`.
 const MOST_SUBSETS: u32 = 4_096;
 
+/// The number of `--subsets` where it is not given.
 const USUAL_SUBSETS: u32 = 2_000;
 
 /// What the words of a line ask for.
@@ -38,7 +40,7 @@ pub fn read_line(words: &[String]) -> Option<Request<'_>>
     })
 }
 
-// The number of `--subsets` by the words of the options.
+/// The number of `--subsets` by the words of the options.
 fn read_options(words: &[String]) -> Option<u32>
     ensures some { IfSome result (λ n. AreOptions (map string_bytes words.now) n) }
     ensures few { IfSome result (λ n. n ≤ 4096) }
@@ -53,7 +55,7 @@ fn read_options(words: &[String]) -> Option<u32>
     }
 }
 
-// The number from `least` to `most` that a text is in decimal digits, without a leading zero.
+/// The number from `least` to `most` that a text is in decimal digits, without a leading zero.
 fn read_number(text: &str, least: u32, most: u32) -> Option<u32>
     ensures some { IfSome result (λ n. text.now ≡ decimal n) }
     ensures within { IfSome result (λ n. (least ≤ n) × (n ≤ most)) }

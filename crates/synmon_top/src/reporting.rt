@@ -17,8 +17,8 @@ use subset_minimal::{MinDfa, MinFault, minimal};
 use syn_outside::Sink;
 use syn_words::Alphabet;
 
-/// Writes the text about the source that the bytes spell, if they spell one and words lead to at most `max_subsets` distinct
-/// sets of its automaton's states. Condition: `max_subsets <= 4096`.
+/// Writes the text about the source that the bytes spell, if they spell one and words lead to at most `max_subsets`
+/// distinct sets of its automaton's states. Condition: `max_subsets <= 4096`.
 pub fn report<O: Sink>(alloc: Global, bytes: &[u8], max_subsets: u32, out: &mut O) -> Ending
     requires { max_subsets ≤ 4096 }
     ensures ends { Reports bytes.now max_subsets result (O.written out.old) (O.written out.new) }
@@ -42,7 +42,7 @@ pub fn report<O: Sink>(alloc: Global, bytes: &[u8], max_subsets: u32, out: &mut 
     }
 }
 
-// The minimal automaton of a source's language.
+/// The minimal automaton of a source's language.
 fn minimal_of(alloc: Global, source: &Source, max_subsets: u32) -> Result<MinDfa, MinFault>
     requires subsets { max_subsets ≤ 4096 }
     requires sound { IsSoundSource (source_text source.now) }
@@ -55,7 +55,7 @@ fn minimal_of(alloc: Global, source: &Source, max_subsets: u32) -> Result<MinDfa
     minimal(alloc, &nfa, max_subsets)
 }
 
-// Writes the section of a minimal automaton.
+/// Writes the section of a minimal automaton.
 fn print<O: Sink>(
     alloc: Global,
     alphabet: &Alphabet,
@@ -73,7 +73,7 @@ fn print<O: Sink>(
     Ok(())
 }
 
-// Says the section of a minimal automaton into an empty buffer, and writes it.
+/// Says the section of a minimal automaton into an empty buffer, and writes it.
 fn print_automaton<O: Sink>(
     out: &mut O,
     buffer: &mut Buffer,

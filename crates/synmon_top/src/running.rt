@@ -15,15 +15,15 @@ use std::alloc::Global;
 use std::thread::Threads;
 use syn_outside::{Files, Gate, ReadFault, Sink, read_all};
 
-// The most bytes that a file may have.
+/// The most bytes that a file may have.
 const LIMIT: u32 = 1_048_576;
 
 /// Runs the program on the words after its name: writes the text that they ask for to `out`, or a line
 /// about what went wrong to `errs`, and answers the exit status.
 ///
-/// 0: the whole text is on `out`. 2: the words are no line. 3: the file was not read. 4: the file spells
-/// no source. 5: words lead to more sets of states than the words allow. 6: the text was not written to its end. 7: the system gave no memory. A failure of `errs`
-/// changes no status.
+/// 0: the whole text is on `out`. 2: the words are no line. 3: the file was not read. 4: the file spells no source. 5:
+/// words lead to more sets of states than the words allow. 6: the text was not written to its end. 7: the system gave
+/// no memory. A failure of `errs` changes no status.
 pub fn run<R: Threads + Sync, F: Files, O: Sink, E: Sink, G: Gate + Sync>(
     _rt: &R,
     alloc: Global,
@@ -52,7 +52,7 @@ pub fn run<R: Threads + Sync, F: Files, O: Sink, E: Sink, G: Gate + Sync>(
     ending.status()
 }
 
-// Writes the text that the words ask for to `out`, and says how that ended.
+/// Writes the text that the words ask for to `out`, and says how that ended.
 fn answer<F: Files, O: Sink>(alloc: Global, words: &[String], files: &mut F, out: &mut O) -> Ending
     ensures ends { Ends (F.held files.old) (map string_bytes words.now) result (O.written out.old) (O.written out.new) }
     ensures cannot_read { result ≡ Ending.CannotRead → Rose (F.faults files.old) (F.faults files.new) ⊎ IsLacking (F.held files.old) (map string_bytes words.now) }

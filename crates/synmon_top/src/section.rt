@@ -38,7 +38,7 @@ pub fn say_automaton<S: Sink>(
     Ok(())
 }
 
-// Says a line for each state.
+/// Says a line for each state.
 fn say_states<S: Sink>(
     sink: &mut S,
     buffer: &mut Buffer,
@@ -58,7 +58,7 @@ fn say_states<S: Sink>(
     Ok(())
 }
 
-// Says the line of a state.
+/// Says the line of a state.
 fn say_state<S: Sink>(
     sink: &mut S,
     buffer: &mut Buffer,
@@ -83,7 +83,7 @@ fn say_state<S: Sink>(
     Ok(())
 }
 
-// Says whether a state is final.
+/// Says whether a state is final.
 fn say_membership<S: Sink>(
     sink: &mut S,
     buffer: &mut Buffer,
@@ -102,7 +102,7 @@ fn say_membership<S: Sink>(
     }
 }
 
-// Says the state to which each letter leads from a state.
+/// Says the state to which each letter leads from a state.
 fn say_targets<S: Sink>(
     sink: &mut S,
     buffer: &mut Buffer,
@@ -122,7 +122,7 @@ fn say_targets<S: Sink>(
     Ok(())
 }
 
-// Says a state as one of a line of states.
+/// Says a state as one of a line of states.
 fn say_target<S: Sink>(sink: &mut S, buffer: &mut Buffer, state: u32) -> Result<(), SayFault>
     requires { buffer.old.broken ≡ false }
     ensures said { OnOk result (IsSaid (S.written sink.old) buffer.old (S.written sink.new) buffer.new (codes " " ++ decimal state)) }
@@ -135,7 +135,7 @@ fn say_target<S: Sink>(sink: &mut S, buffer: &mut Buffer, state: u32) -> Result<
     Ok(())
 }
 
-// Says a word by its letters; the empty word is `1`.
+/// Says a word by its letters; the empty word is `1`.
 fn say_word<S: Sink>(
     sink: &mut S,
     buffer: &mut Buffer,
@@ -156,7 +156,7 @@ fn say_word<S: Sink>(
     }
 }
 
-// Says letters by their signs.
+/// Says letters by their signs.
 fn say_letters<S: Sink>(
     sink: &mut S,
     buffer: &mut Buffer,

@@ -40,8 +40,8 @@ const WHOLE_LINE: u32 = 64;
 /// A number that no call of these runs has.
 const NEVER: u8 = 255;
 
-/// A run on the words, where the one file is `name`: the numbers of the calls that fail, the room of the sinks, and what is
-/// wanted.
+/// A run on the words, where the one file is `name`: the numbers of the calls that fail, the room of the sinks, and
+/// what is wanted.
 #[derive(Clone, Copy)]
 struct Row {
     words: &'static [&'static str],
