@@ -64,11 +64,11 @@ first_step earlier number t ts line code more e = by (line_fault earlier t) refl
           each_line (λ i. fault_behind earlier (t ∷ ts) i ≡ None) (length ts) (fault_first earlier t ts ∙ pass) (λ i h. fault_next earlier t ts i ∙ pass_all i h),
         )
 
+    here : (c : ℕ) → line_fault earlier t ≡ Some c → (number ≡ line) × (c ≡ code) → IsFirst earlier number (t ∷ ts) line code
+    here c o at = inl (zero, omega arith, omega (arith, at.0), fault_first earlier t ts ∙ o ∙ ap Some at.1, λ i h. absurd (omega arith))
+
     by : (o : Option ℕ) → line_fault earlier t ≡ o → IsFirst earlier number (t ∷ ts) line code
-    by (Some c) o =
-        let same : Some (number, c) ≡ Some (line, code) = ap (λ (f : Option ℕ). fault_else f number (first_fault (earlier ++ parts (t ∷ [])) (number + 1) ts)) (sym o) ∙ e in
-        let at = same_pair (number, c) (line, code) same in
-        inl (zero, omega arith, omega (arith, at.0), fault_first earlier t ts ∙ o ∙ ap Some at.1, λ i h. absurd (omega arith))
+    by (Some c) o = here c o (same_pair (number, c) (line, code) (ap (λ (f : Option ℕ). fault_else f number (first_fault (earlier ++ parts (t ∷ [])) (number + 1) ts)) (sym o) ∙ e))
     by None o = behind (more (ap (λ (f : Option ℕ). fault_else f number (first_fault (earlier ++ parts (t ∷ [])) (number + 1) ts)) (sym o) ∙ e)) o
 
 first_is : (earlier : Lines) (number : ℕ) (texts : List (List ℕ)) (line code : ℕ) → first_fault earlier number texts ≡ Some (line, code) → IsFirst earlier number texts line code

@@ -7,8 +7,9 @@ use Rattle.std.proofs.Math.Nat.{mul-le-mul_right}
 use Rattle.std.proofs.lemmas.List.Elements.{All-push, All-weaker, All-get_or}
 use Rattle.language_theory.specs.Words.{Over, ◌⊏◌, word_at}
 use Rattle.language_theory.proofs.Shortlex.{smaller_with_letters, smaller_last_letter, shorter_first, shortlex_asymm, shortlex_irrefl, over_last}
+use Rattle.language_theory.proofs.Graphs.{row_place}
 use Rattle.exploration.specs.Search.{IsBreadthFirst}
-use Rattle.exploration.proofs.Places.{place_order, row_within, place_before_or_last, place_within}
+use Rattle.exploration.proofs.Places.{place_order, row_within, place_before_or_last}
 
 -- the empty word comes before each word with a letter
 pub nil_first : (w : List ℕ) (a : ℕ) → [] ⊏ (w ++ a ∷ [])
@@ -40,7 +41,7 @@ search_meets k words targets p a n h hp e ha hn = record {
   rise = h.rise;
   found = λ j pos within. let f = h.found j pos within in
       (f.0, f.1, f.2, omega (arith, longer, f.3), (get_or_append_left targets (n ∷ []) 0 (f.0 * k + f.1) f.3) ∙ f.4, f.5);
-  handled = omega (arith, longer, place_within p a (length words) k hp ha);
+  handled = omega (arith, longer, row_place p a (length words) k hp ha);
   within = All-push (λ t. t < length words) targets n h.within hn;
   least = λ q b hb place. least q b hb (place_before_or_last q b p a k targets n hb ha e place);
 }
@@ -70,7 +71,7 @@ search_finds k words targets p a h hp e ha = record {
   over = λ i hi. over i (split i hi);
   rise = λ i j hij hj. rise i j hij (split j hj);
   found = λ j pos hj. found j pos (split j hj);
-  handled = omega (arith, longer, more, place_within p a (length words) k hp ha, mul-le-mul_right {m = length words} {n = length all} k (omega (arith, more)));
+  handled = omega (arith, longer, more, row_place p a (length words) k hp ha, mul-le-mul_right {m = length words} {n = length all} k (omega (arith, more)));
   within = All-push (λ t. t < length all) targets (length words) (All-weaker (λ t. t < length words) (λ t. t < length all) (λ t ht. omega (arith, more)) targets h.within) (omega (arith, more));
   least = λ q b hb place. least q b hb (place_before_or_last q b p a k targets (length words) hb ha e place);
 }

@@ -24,10 +24,6 @@ row_within p a k n h = by (cases_lt p n)
     by (inl l) = l
     by (inr l) = absurd (omega (arith, mul-le-mul_right {m = n} {n = p} k l))
 
--- the place of a row and a column is within the table
-pub place_within : (p a n k : ℕ) → p < n → a < k → p * k + a < n * k
-place_within p a n k hp ha = omega (arith, mul-le-mul_right {m = p + 1} {n = n} k (omega arith))
-
 -- a place in a list that grew by one, which was p * k + a long, is a place of the list before, or the row p and the column a
 pub place_before_or_last : (q b p a k : ℕ) (xs : List ℕ) (x : ℕ) → b < k → a < k → length xs ≡ p * k + a → q * k + b < length (xs ++ x ∷ []) → (q * k + b < length xs) ⊎ ((q ≡ p) × (b ≡ a))
 place_before_or_last q b p a k xs x hb ha e h = by (cases_lt (q * k + b) (length xs))

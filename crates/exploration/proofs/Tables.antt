@@ -10,7 +10,7 @@ use Rattle.language_theory.specs.Congruence.{moved}
 use Rattle.std.proofs.Common.{true}
 use Rattle.std.proofs.lemmas.List.Elements.{All-get_or}
 use Rattle.language_theory.proofs.Shortlex.{over_last}
-use Rattle.exploration.proofs.Places.{place_within}
+use Rattle.language_theory.proofs.Graphs.{row_place}
 use Rattle.exploration.specs.States.{AreKept, IsNext}
 use Rattle.exploration.specs.Table.{Table, IsTable, image, state_of, number_of}
 use Rattle.exploration.proofs.Interning.{insert_keeps, insert_numbers, insert_reached}
@@ -64,4 +64,4 @@ seen_within t q h hq =
   where
     walks : (p : ℕ) (w : List ℕ) → p < t.states → Over t.letters w → moved (image t) p w < t.states
     walks p [] hp o = hp
-    walks p (a ∷ w) hp o = walks (image t p a) w (All-get_or (λ q. q < t.states) t.targets (p * t.letters + a) 0 (rw h.long (place_within p a t.states t.letters hp o.0)) h.within) o.1
+    walks p (a ∷ w) hp o = walks (image t p a) w (All-get_or (λ q. q < t.states) t.targets (p * t.letters + a) 0 (rw h.long (row_place p a t.states t.letters hp o.0)) h.within) o.1

@@ -6,12 +6,12 @@ use Rattle.language_theory.specs.Words.{Over, ◌⊏◌, word_at}
 use Rattle.language_theory.specs.Representatives.{HasMoreClasses}
 use Rattle.language_theory.specs.ShortlexGraph.{Graph, IsGraph, IsShortlex, IsGraphOf, node, target}
 use Rattle.language_theory.proofs.Shortlex.{over_front, over_back, shortlex_irrefl, shortlex_asymm, smaller_than_longer, strong_induction}
-use Rattle.language_theory.proofs.Graphs.{walk_append, node_within}
+use Rattle.language_theory.proofs.Graphs.{row_place, walk_append, node_within}
 use Rattle.language_theory.proofs.ShortlexCriterion.{shortlex_by_letters}
 use Rattle.language_theory.proofs.Numbers.{pigeonhole}
 use Rattle.exploration.specs.States.{AreNumbered, Agree, IsSameMachine}
 use Rattle.exploration.specs.Search.{IsBreadthFirst, AreNodes, IsSearched}
-use Rattle.exploration.proofs.Places.{row_within, place_within}
+use Rattle.exploration.proofs.Places.{row_within}
 
 -- what holds of the empty word, and with each letter behind a word for which it holds, holds of each word
 pub letter_by_letter : (P : List ℕ → Type 0) → P [] → ((w : List ℕ) (a : ℕ) → P w → P (w ++ a ∷ [])) → (w : List ℕ) → P w
@@ -27,7 +27,7 @@ graph_of size letters targets = record { size = size; letters = letters; targets
 
 module _ (k : ℕ) (words : List (List ℕ)) (targets : List ℕ) (h : IsBreadthFirst k words targets) (whole : length targets ≡ length words * k) where
   listed : (p a : ℕ) → p < length words → a < k → p * k + a < length targets
-  listed p a hp ha = rw whole (place_within p a (length words) k hp ha)
+  listed p a hp ha = rw whole (row_place p a (length words) k hp ha)
 
   pub search_is_graph : IsGraph (graph_of (length words) k targets)
   search_is_graph = record { root = h.some; long = whole; within = h.within }

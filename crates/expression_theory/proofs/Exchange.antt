@@ -25,7 +25,8 @@ between_star n m L hL p u v s = by (within_piece L p (u ++ p ∷ v) u v refl s)
     by : Within L p u v → (n ≤ p) × (p < m)
     by (before, x, y, after, s, l, t, e, f) = hL p x y l
 
-ends_at : (n : ℕ) (a b : List ℕ) → (n + length a) + length b ≡ n + length (a ++ b)
+-- the place behind both lists
+pub ends_at : (n : ℕ) (a b : List ℕ) → (n + length a) + length b ≡ n + length (a ++ b)
 ends_at n a b = omega (arith, length-append a b)
 
 -- the signs of the words are those of the tree

@@ -12,13 +12,10 @@ use Rattle.expression_theory.proofs.Exchange.{between}
 use Rattle.expression_theory.proofs.Polish.{letters_append, signs_counted}
 use Rattle.expression_theory.proofs.FirstLast.{has_word_decides, has_empty_decides, follows_decide}
 use Rattle.expression_theory.proofs.Sizes.{firsts_below, lasts_below}
+use Rattle.expression_theory.proofs.Exchange.{ends_at}
 use Rattle.regex_reader.specs.declared.parts.Part.{Part}
 use Rattle.regex_reader.specs.Marks.{Table, is_marked, IsAdded, IsCleared}
 use Rattle.regex_reader.specs.Parts.{IsPart, AreParts, IsFollowing, IsEvaluated, CanCombine, HasCombined, CanJoin, HasJoined, CanRepeat, HasRepeated, CanRead}
-
--- the place behind both lists
-pub ends_at : (n : ℕ) (xs ys : List ℕ) → (n + length xs) + length ys ≡ n + length (xs ++ ys)
-ends_at n xs ys = omega (arith, length-append xs ys)
 
 either_way : (b : Bool) → (b ≡ true) ⊎ (b ≡ false)
 either_way true = inl refl

@@ -1,6 +1,6 @@
 -- Nodes that are read from the last to the first.
-use Rattle.std.proofs.Common.{◌≡◌, ℕ, zero, suc, ◌+◌, ◌-◌, ◌<◌, ◌≤◌, false, List, [], ◌∷◌, length, map, take, drop, get_or, reverse, refl, ap, sym, subst, ◌∙◌, arith, length-append}
-use Rattle.std.proofs.lemmas.List.{get_or-map, length-map, take-append-drop, length-drop, length-reverse, drop_all}
+use Rattle.std.proofs.Common.{◌≡◌, ℕ, zero, suc, ◌+◌, ◌-◌, ◌<◌, ◌≤◌, List, [], ◌∷◌, length, map, take, drop, get_or, reverse, refl, ap, sym, subst, ◌∙◌, arith, length-append}
+use Rattle.std.proofs.lemmas.List.{get_or-map, length-map, take-append-drop, length-drop, length-reverse}
 use Rattle.expression_theory.specs.Expression.{Tree}
 use Rattle.expression_theory.specs.Polish as notation
 use Rattle.expression_theory.specs.Polish.{NoWord, polish, trees, IsNotation, letters, signs_among}
@@ -8,7 +8,7 @@ use Rattle.expression_theory.proofs.Polish.{trees_of_polish, letters_append, not
 use Rattle.regex_reader.specs.declared.parts.Part.{Part}
 use Rattle.regex_reader.specs.declared.polish.Node.{Node}
 use Rattle.regex_reader.specs.declared.polish.Node.TheVariants as node
-use Rattle.regex_reader.specs.Marks.{Table, is_marked}
+use Rattle.regex_reader.specs.Marks.{Table}
 use Rattle.regex_reader.specs.Notations.{node_of}
 use Rattle.regex_reader.specs.Parts.{IsPart, AreParts, IsEvaluated, HasCombined, CanRead}
 use Rattle.regex_reader.proofs.Combining.{read_on, sign_left, count_parts}

@@ -1,17 +1,13 @@
 -- The rows of targets of an automaton, one for each state and letter.
-use Rattle.std.proofs.Common.{◌≡◌, ◌≢◌, ℕ, ◌+◌, ◌*◌, ◌/◌, ◌%◌, ◌<◌, ◌≤◌, List, [], ◌∷◌, ◌++◌, All, map, length, get_or, set, refl, sym, ◌∙◌, ap, inl, inr, arith}
+use Rattle.std.proofs.Common.{◌≡◌, ◌≢◌, ℕ, ◌+◌, ◌*◌, ◌<◌, List, [], ◌∷◌, ◌++◌, All, map, length, get_or, set, refl, ◌∙◌, ap, inl, inr, arith}
 use Rattle.std.proofs.lemmas.Bool.Decides.{eqb_tells}
-use Rattle.std.proofs.lemmas.Nat.{div-mul-add, mod-mul-add}
-use Rattle.std.proofs.Math.Nat.{mul-le-mul_left}
+use Rattle.std.proofs.lemmas.Nat.{same_from_place}
 use Rattle.std.proofs.lemmas.Grind.{common_steps, get_or-set_at}
 use Rattle.std.proofs.lemmas.List.{map-append, append-nil, length-set, get_or-set_other}
 use Rattle.std.proofs.lemmas.List.Elements.{filter-append, All-filter, All-map}
 use Rattle.language_theory.specs.Automaton.{Automaton, IsAutomaton, targets_among, targets_of}
+use Rattle.language_theory.proofs.Graphs.{row_place}
 use Rattle.syn_words.specs.Targets.{AreTargets}
-
--- a place tells its state and its letter
-pub same_place : (p a q b n : ℕ) → a < n → b < n → p * n + a ≡ q * n + b → (p ≡ q) × (a ≡ b)
-same_place p a q b n h k e = (sym (div-mul-add p n a h) ∙ ap (λ i. i / n) e ∙ div-mul-add q n b k, sym (mod-mul-add p n a h) ∙ ap (λ i. i % n) e ∙ mod-mul-add q n b k)
 
 -- the targets by steps and one more
 pub targets-append : (p a : ℕ) (steps more : List (ℕ × ℕ × ℕ)) → targets_among p a (steps ++ more) ≡ targets_among p a steps ++ targets_among p a more
@@ -28,10 +24,6 @@ targets-elsewhere p a q x b h = grind (arith, common_steps)
 -- the targets of an automaton are states of it
 pub targets_within : (m : Automaton) (p a : ℕ) → IsAutomaton m → All (λ q. q < m.states) (targets_of m p a)
 targets_within m p a h = All-map (λ q. q < m.states) (λ (s : ℕ × ℕ × ℕ). s.2) _ (All-filter _ (λ (s : ℕ × ℕ × ℕ). s.2 < m.states) m.steps h.to)
-
--- the place of a state and a letter stands among those of all
-pub row_place : (p a n k : ℕ) → p < n → a < k → p * k + a < n * k
-row_place p a n k hp ha = let h : p + 1 ≤ n = omega arith in omega (arith, mul-le-mul_left k h)
 
 -- the row of the step that came
 row_here : (m : Automaton) (rows : List (List ℕ)) (p a q x b : ℕ) → AreTargets m rows → p < m.states → a < m.letters → (x ≡ p) × (b ≡ a) → get_or (set rows (p * m.letters + a) (get_or rows (p * m.letters + a) [] ++ q ∷ [])) (x * m.letters + b) [] ≡ targets_among x b (m.steps ++ (p, a, q) ∷ [])
@@ -50,7 +42,7 @@ pub AreTargets-more : (m : Automaton) (rows : List (List ℕ)) (p a q : ℕ) (ro
 AreTargets-more m rows p a q row h hp ha e = record {
   long = length-set rows _ row ∙ h.long;
   row = λ x b hx hb. elim (eqb_tells (x * m.letters + b) (p * m.letters + a)) [
-    | inl same ↦ rw e (row_here m rows p a q x b h hp ha (same_place x b p a m.letters hb ha same.1))
+    | inl same ↦ rw e (row_here m rows p a q x b h hp ha (same_from_place x b p a m.letters hb ha same.1))
     | inr other ↦ row_elsewhere m rows p a q x b row h hx hb ha other.1
   ];
 }
