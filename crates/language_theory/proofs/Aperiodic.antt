@@ -9,7 +9,7 @@ use Rattle.language_theory.specs.Separation.{IsSeparation}
 use Rattle.language_theory.specs.Powers.{Repeats, IsIndexAndPeriod, IsAperiodic, IsFirstLoop, NeverSettle}
 use Rattle.language_theory.proofs.Numbers.{least_or_none}
 use Rattle.language_theory.proofs.Shortlex.{over_append}
-use Rattle.language_theory.proofs.Congruences.{syntactic_congruence}
+use Rattle.language_theory.proofs.Congruences.{right_congruence, syntactic_congruence}
 use Rattle.language_theory.proofs.Exponents.{over_power, index_is_one, period_is_one}
 use Rattle.language_theory.proofs.Returns.{index_exists}
 use Rattle.language_theory.proofs.Settling.{never_settles}
@@ -51,7 +51,7 @@ module _ (k : ℕ) (same : List ℕ → List ℕ → Type 0) (c : IsCongruence k
       where
         by : (e < length words) ⊎ (length words ≤ e) → Loops e ⊎ ¬ Loops e
         by (inr m) = inr (λ f. let h = f.0 in omega arith)
-        by (inl h) = of (index_exists k same words c l (word_at words e) (l.over e h))
+        by (inl h) = of (index_exists k same words (right_congruence k same c) l (word_at words e) (l.over e h))
           where
             of : (i p : ℕ) × IsIndexAndPeriod same (word_at words e) i p → Loops e ⊎ ¬ Loops e
             of (i, p, a) = elim (cases_lt 1 p) [
@@ -84,7 +84,7 @@ pub loop_never_settles : (k : ℕ) (L : List ℕ → Type 0) (d : MinimalAutomat
 loop_never_settles k L d h x i p o a m = by (separation_exists k L d h (power i x) (power (i + 1) x) (over_power k i x o) (over_power k (i + 1) x o) (neighbours_apart k (Syntactic k L) (syntactic_congruence k L) x i p a m))
   where
     by : (u v : List ℕ) × IsSeparation k L (power i x) (power (i + 1) x) u v → (u v : List ℕ) × IsSeparation k L (power i x) (power (i + 1) x) u v × NeverSettle L u x v
-    by (u, v, s) = (u, v, s, never_settles k L u x v s.before.over o s.behind.over i p a s.behind.holds)
+    by (u, v, s) = (u, v, s, never_settles k L u x v s.before.over o s.behind.over i p a.positive a.repeats s.behind.holds)
 
 -- there is one first loop
 pub first_loop_is_one : (same : List ℕ → List ℕ → Type 0) (words : List (List ℕ)) (e i p d j q : ℕ) → IsFirstLoop same words e i p → IsFirstLoop same words d j q → (e ≡ d) × (i ≡ j) × (p ≡ q)

@@ -11,6 +11,10 @@ both_directions h g = (λ p. g.0 (h.0 p), λ r. h.1 (g.1 r))
 pub other_direction : {P Q : Type 0} → P ↔ Q → Q ↔ P
 other_direction h = (h.1, h.0)
 
+-- a congruence is a right congruence
+pub right_congruence : (k : ℕ) (same : List ℕ → List ℕ → Type 0) → IsCongruence k same → IsRightCongruence k same
+right_congruence k same c = record { equivalence = c.equivalence; right = c.right }
+
 pub equal_words_alike : (L : List ℕ → Type 0) (u v : List ℕ) → u ≡ v → L u ↔ L v
 equal_words_alike L u v e = (λ h. subst L e h, λ h. subst L (sym e) h)
 
@@ -45,6 +49,9 @@ module _ (k : ℕ) (L : List ℕ → Type 0) where
       left u v w ou ov ow h p q op oq =
           let to : (x : List ℕ) → p ++ ((w ++ x) ++ q) ≡ (p ++ w) ++ (x ++ q) = λ x. simp append_assoc in
           rw (to u, to v) (h (p ++ w) q (over_append k p w op ow) oq)
+
+  pub syntactic_right : IsRightCongruence k (Syntactic k L)
+  syntactic_right = right_congruence k (Syntactic k L) syntactic_congruence
 
   -- words with the same contexts have the same words behind them
   pub syntactic_nerode : (u v : List ℕ) → Syntactic k L u v → Nerode k L u v

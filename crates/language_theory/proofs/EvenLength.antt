@@ -54,4 +54,4 @@ a_has_period_two = record { positive = omega arith; repeats = λ p q op oq. two_
     period (suc (suc q)) l s = omega arith
 
 pub a_never_settles : NeverSettle IsEven [] (0 ∷ []) []
-a_never_settles = never_settles 1 IsEven [] (0 ∷ []) [] tt (omega arith, tt) tt 0 2 a_has_period_two (inl ((0, refl), a_is_odd))
+a_never_settles = never_settles 1 IsEven [] (0 ∷ []) [] tt (omega arith, tt) tt 0 2 a_has_period_two.positive a_has_period_two.repeats (inl ((0, refl), a_is_odd))

@@ -4,7 +4,7 @@ use Rattle.std.proofs.Math.Nat.{add-mul-mod_self_right, div-add-mod, mul-le-mul_
 use Rattle.std.proofs.lemmas.Nat.{mod_below}
 use Rattle.std.proofs.lemmas.Bool.{cases_lt}
 use Rattle.language_theory.specs.Words.{Over, power}
-use Rattle.language_theory.specs.Congruence.{IsCongruence}
+use Rattle.language_theory.specs.Congruence.{IsRightCongruence}
 use Rattle.language_theory.specs.Powers.{Repeats, IsIndexAndPeriod}
 use Rattle.language_theory.proofs.Shortlex.{over_append}
 
@@ -35,7 +35,7 @@ remainder n p h =
     let e : p * (n / p) + n % p ≡ n = div-add-mod n p in
     (mod_below n p (omega arith), omega arith)
 
-module _ (k : ℕ) (same : List ℕ → List ℕ → Type 0) (c : IsCongruence k same) (x : List ℕ) (o : Over k x) where
+module _ (k : ℕ) (same : List ℕ → List ℕ → Type 0) (c : IsRightCongruence k same) (x : List ℕ) (o : Over k x) where
   pub powers_refl : (a b : ℕ) → a ≡ b → same (power a x) (power b x)
   powers_refl a b e = subst (λ (n : ℕ). same (power a x) (power n x)) e (c.equivalence.refl (power a x) (over_power k a x o))
 

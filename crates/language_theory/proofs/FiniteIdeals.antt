@@ -6,6 +6,7 @@ use Rattle.language_theory.specs.Representatives.{AreRepresentatives}
 use Rattle.language_theory.specs.Powers.{IsIndexAndPeriod}
 use Rattle.language_theory.specs.Green.{IsInRight, IsInLeft, IsInIdeal, IsR, IsL, IsJ, IsD, IsRTrivial, IsLTrivial, IsJTrivial}
 use Rattle.language_theory.proofs.Shortlex.{over_append}
+use Rattle.language_theory.proofs.Congruences.{right_congruence}
 use Rattle.language_theory.proofs.Ideals.{related_between, related_equal, over_between, j_equivalence, r_in_j, l_in_j}
 use Rattle.language_theory.proofs.Exponents.{power_add, over_power}
 use Rattle.language_theory.proofs.Returns.{index_exists}
@@ -23,7 +24,7 @@ module _ (k : ℕ) (same : List ℕ → List ℕ → Type 0) (words : List (List
   module _ (s a b : List ℕ) (os : Over k s) (oa : Over k a) (ob : Over k b) (round : same s (a ++ (s ++ b))) where
     -- s is a s b, and so a^n s b^n
     rounds : (n : ℕ) → same s (power n a ++ (s ++ power n b))
-    rounds zero = related_equal k same c s (s ++ []) os (sym (append-nil s))
+    rounds zero = related_equal k same c.equivalence s (s ++ []) os (sym (append-nil s))
     rounds (suc n) = through s (a ++ (s ++ b)) (power (suc n) a ++ (s ++ power (suc n) b)) os (over_between k same c a s b oa os ob) (over_between k same c (power (suc n) a) s (power (suc n) b) (over_power k (suc n) a oa) os (over_power k (suc n) b ob)) round (subst (λ (w : List ℕ). same (a ++ (s ++ b)) w) grouped (related_between k same c s inner a b os (over_between k same c (power n a) s (power n b) (over_power k n a oa) os (over_power k n b ob)) oa ob (rounds n)))
       where
         inner : List ℕ
@@ -34,7 +35,7 @@ module _ (k : ℕ) (same : List ℕ → List ℕ → Type 0) (words : List (List
 
     -- and so s is a^p s for some p that is not 0
     pub comes_back_before : (n : ℕ) × same s (power (suc n) a ++ s)
-    comes_back_before = by (index_exists k same words c l a oa)
+    comes_back_before = by (index_exists k same words (right_congruence k same c) l a oa)
       where
         by : (i p : ℕ) × IsIndexAndPeriod same a i p → (n : ℕ) × same s (power (suc n) a ++ s)
         by (i, zero, h) = absurd (let one = h.positive in omega arith)
@@ -60,7 +61,7 @@ module _ (k : ℕ) (same : List ℕ → List ℕ → Type 0) (words : List (List
 
     -- and s is s b^q for some q that is not 0
     pub comes_back_behind : (n : ℕ) × same s (s ++ power (suc n) b)
-    comes_back_behind = by (index_exists k same words c l b ob)
+    comes_back_behind = by (index_exists k same words (right_congruence k same c) l b ob)
       where
         by : (i p : ℕ) × IsIndexAndPeriod same b i p → (n : ℕ) × same s (s ++ power (suc n) b)
         by (i, zero, h) = absurd (let one = h.positive in omega arith)

@@ -3,11 +3,11 @@ use Rattle.std.proofs.Common.{◌≡◌, ◌⊎◌, inl, inr, ℕ, ◌<◌, List
 use Rattle.std.proofs.lemmas.List.{append_cancel_left, get_or_past}
 use Rattle.std.proofs.lemmas.Bool.{cases_lt}
 use Rattle.language_theory.specs.Words.{◌⊏◌, word_at}
-use Rattle.language_theory.specs.Congruence.{IsCongruence}
+use Rattle.language_theory.specs.Congruence.{IsEquivalence, IsRightCongruence, IsCongruence}
 use Rattle.language_theory.specs.Representatives.{AreRepresentatives, IsReduced}
 use Rattle.language_theory.specs.Products.{IsPrefixLink, IsSuffixLink}
 use Rattle.language_theory.proofs.Shortlex.{over_back, last_letter, smaller_than_longer, shorter_first}
-use Rattle.language_theory.proofs.Representatives.{reduced_is_listed, listed_is_reduced, reduced_prefix, reduced_suffix, right_congruence, listed_once, listed_order}
+use Rattle.language_theory.proofs.Representatives.{reduced_is_listed, listed_is_reduced, reduced_prefix, reduced_suffix, listed_once, listed_order}
 use Rattle.language_theory.proofs.Places.{first_is_empty}
 use Rattle.language_theory.proofs.Rules.{front_is_one}
 
@@ -21,27 +21,29 @@ prefix_link_within words i p a f = within_by_letters words i (let e = ap length 
 pub suffix_link_within : (words : List (List ℕ)) (i a s : ℕ) → IsSuffixLink words i a s → i < length words
 suffix_link_within words i a s f = within_by_letters words i (let e = ap length f.splits in omega arith)
 
-module _ (k : ℕ) (same : List ℕ → List ℕ → Type 0) (words : List (List ℕ)) (c : IsCongruence k same) (l : AreRepresentatives k same words) where
+module _ (k : ℕ) (same : List ℕ → List ℕ → Type 0) (words : List (List ℕ)) (e : IsEquivalence k same) (l : AreRepresentatives k same words) where
   not_empty : (i : ℕ) → 0 < i → i < length words → ¬ (word_at words i ≡ [])
-  not_empty i p m e = let z : i ≡ 0 = listed_once k same words l i 0 m (omega arith) (e ∙ sym (first_is_empty k same words c.equivalence l)) in omega arith
+  not_empty i p m n = let z : i ≡ 0 = listed_once k same words l i 0 m (omega arith) (n ∙ sym (first_is_empty k same words e l)) in omega arith
 
+module _ (k : ℕ) (same : List ℕ → List ℕ → Type 0) (words : List (List ℕ)) (c : IsRightCongruence k same) (l : AreRepresentatives k same words) where
   -- each listed word but the empty one is a listed word and a last letter
   pub prefix_exists : (i : ℕ) → 0 < i → i < length words → (p a : ℕ) × (a < k) × IsPrefixLink words i p a
   prefix_exists i z m = by (last_letter (word_at words i))
     where
       by : (word_at words i ≡ []) ⊎ ((u : List ℕ) × (a : ℕ) × (word_at words i ≡ u ++ a ∷ [])) → (p a : ℕ) × (a < k) × IsPrefixLink words i p a
-      by (inl e) = absurd (not_empty i z m e)
+      by (inl e) = absurd (not_empty k same words c.equivalence l i z m e)
       by (inr (u, a, e)) =
           let r = subst (IsReduced k same) e (listed_is_reduced k same words l c.equivalence i m) in
-          let (p, h, f) = reduced_is_listed k same words l u (reduced_prefix k same u (a ∷ []) (right_congruence k same c) r) in
+          let (p, h, f) = reduced_is_listed k same words l u (reduced_prefix k same u (a ∷ []) c r) in
           (p, a, (over_back k u (a ∷ []) r.over).0, record { within = h; splits = e ∙ ap (λ (w : List ℕ). w ++ a ∷ []) (sym f) })
 
+module _ (k : ℕ) (same : List ℕ → List ℕ → Type 0) (words : List (List ℕ)) (c : IsCongruence k same) (l : AreRepresentatives k same words) where
   -- and a first letter and a listed word
   pub suffix_exists : (i : ℕ) → 0 < i → i < length words → (a s : ℕ) × (a < k) × IsSuffixLink words i a s
   suffix_exists i z m = by (word_at words i) refl
     where
       by : (w : List ℕ) → word_at words i ≡ w → (a s : ℕ) × (a < k) × IsSuffixLink words i a s
-      by [] e = absurd (not_empty i z m e)
+      by [] e = absurd (not_empty k same words c.equivalence l i z m e)
       by (a ∷ w) e =
           let r = subst (IsReduced k same) e (listed_is_reduced k same words l c.equivalence i m) in
           let (s, h, f) = reduced_is_listed k same words l w (reduced_suffix k same (a ∷ []) w c r) in

@@ -47,7 +47,7 @@ module _ (k : ℕ) (L : List ℕ → Type 0) (g : Graph) (words : List (List ℕ
       in_g w o = subst (λ n. Over n w) (sym letters) o
 
       at : (w : List ℕ) → Over k w → node q w ≡ slice_index classes (node g w)
-      at w o = quotient_node g words count classes q first s c.partition h f w (in_g w o)
+      at w o = quotient_node g count classes q s.graph c.partition h w (in_g w o)
 
       inside : (w : List ℕ) → Over k w → node g w < g.size
       inside w o = node_within g w s.graph (in_g w o)

@@ -1,7 +1,7 @@
 -- Laws on products of classes that are named by their places.
 use Rattle.std.proofs.Common.{◌≡◌, ◌↔◌, inl, inr, ℕ, zero, suc, ◌<◌, List, [], ◌∷◌, ◌++◌, length, sym, subst, arith, append_assoc, append-nil}
 use Rattle.language_theory.specs.Words.{Over, ◌⊏◌, word_at}
-use Rattle.language_theory.specs.Congruence.{IsEquivalence, IsCongruence}
+use Rattle.language_theory.specs.Congruence.{IsEquivalence, IsRightCongruence, IsCongruence}
 use Rattle.language_theory.specs.Representatives.{IsPlaceOf, AreRepresentatives}
 use Rattle.language_theory.specs.Products.{IsProduct, IsRight, IsLeft}
 use Rattle.language_theory.proofs.Shortlex.{over_append, shortlex_trichotomy, none_before_nil}
@@ -50,6 +50,17 @@ module _ (k : ℕ) (same : List ℕ → List ℕ → Type 0) (words : List (List
 
   pub product_by_first : (i : ℕ) → i < length words → IsProduct same words i 0 i
   product_by_first i h = rw (first_is_empty, append-nil (word_at words i)) (place_of_listed i h)
+
+module _ (k : ℕ) (same : List ℕ → List ℕ → Type 0) (words : List (List ℕ)) (c : IsRightCongruence k same) (l : AreRepresentatives k same words) where
+  -- a letter behind takes the place of any word to the place of the word with the letter
+  pub right_of_word : (w : List ℕ) (i a r : ℕ) → Over k w → a < k → IsPlaceOf same words w i → IsPlaceOf same words (w ++ a ∷ []) r ↔ IsRight same words i a r
+  right_of_word w i a r o h p = (move w (word_at words i) o i_over (c.equivalence.symm (word_at words i) w i_over o p.related), move (word_at words i) w i_over o p.related)
+    where
+      i_over : Over k (word_at words i)
+      i_over = l.over i p.within
+
+      move : (u v : List ℕ) → Over k u → Over k v → same u v → IsPlaceOf same words (u ++ a ∷ []) r → IsPlaceOf same words (v ++ a ∷ []) r
+      move u v ou ov s = place_of_related k same words l c.equivalence (u ++ a ∷ []) (v ++ a ∷ []) r (over_append k u (a ∷ []) ou (h, tt)) (over_append k v (a ∷ []) ov (h, tt)) (c.right u v (a ∷ []) ou ov (h, tt) s)
 
 module _ (k : ℕ) (same : List ℕ → List ℕ → Type 0) (words : List (List ℕ)) (c : IsCongruence k same) (l : AreRepresentatives k same words) where
   -- related words, put together, are related
@@ -100,16 +111,7 @@ module _ (k : ℕ) (same : List ℕ → List ℕ → Type 0) (words : List (List
       listed : (n : ℕ) → n < length words → IsPlaceOf same words (word_at words n) n
       listed = place_of_listed k same words c.equivalence l
 
-  -- multiplication by a letter takes the place of any word to the place of the word with the letter
-  pub right_of_word : (w : List ℕ) (i a r : ℕ) → Over k w → a < k → IsPlaceOf same words w i → IsPlaceOf same words (w ++ a ∷ []) r ↔ IsRight same words i a r
-  right_of_word w i a r o h p = (move w (word_at words i) o i_over (c.equivalence.symm (word_at words i) w i_over o p.related), move (word_at words i) w i_over o p.related)
-    where
-      i_over : Over k (word_at words i)
-      i_over = l.over i p.within
-
-      move : (u v : List ℕ) → Over k u → Over k v → same u v → IsPlaceOf same words (u ++ a ∷ []) r → IsPlaceOf same words (v ++ a ∷ []) r
-      move u v ou ov s = place_of_related k same words l c.equivalence (u ++ a ∷ []) (v ++ a ∷ []) r (over_append k u (a ∷ []) ou (h, tt)) (over_append k v (a ∷ []) ov (h, tt)) (c.right u v (a ∷ []) ou ov (h, tt) s)
-
+  -- a letter before takes the place of any word to the place of the letter and the word
   pub left_of_word : (w : List ℕ) (a i r : ℕ) → Over k w → a < k → IsPlaceOf same words w i → IsPlaceOf same words (a ∷ w) r ↔ IsLeft same words a i r
   left_of_word w a i r o h p = (move w (word_at words i) o i_over (c.equivalence.symm (word_at words i) w i_over o p.related), move (word_at words i) w i_over o p.related)
     where

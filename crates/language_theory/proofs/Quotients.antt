@@ -3,7 +3,7 @@ use Rattle.std.proofs.Common.{◌≡◌, ℕ, ◌<◌, inl, inr, List, [], ◌�
 use Rattle.std.proofs.lemmas.Bool.{cases_lt}
 use Rattle.language_theory.specs.Words.{Over, word_at, ◌⊏◌}
 use Rattle.language_theory.specs.Representatives.{IsPlaceOf, AreRepresentatives}
-use Rattle.language_theory.specs.ShortlexGraph.{Graph, target, walk, node, SameNode, IsShortlex, IsNumbering, IsFirst, IsPartition, IsQuotient, AreFirstWords}
+use Rattle.language_theory.specs.ShortlexGraph.{Graph, target, walk, node, SameNode, IsGraph, IsShortlex, IsNumbering, IsFirst, IsPartition, IsQuotient, AreFirstWords}
 use Rattle.language_theory.proofs.Shortlex.{not_greater_trans, shortlex_asymm, shortlex_irrefl}
 use Rattle.language_theory.proofs.Numbers.{least_number, equal_or_not}
 use Rattle.language_theory.proofs.Graphs.{target_within, node_within, node_word_over, node_word_least}
@@ -39,16 +39,20 @@ root_class count classes n h = elim (cases_lt 0 (slice_index classes 0)) [
   | inr l ↦ omega arith
 ]
 
-module _ (g : Graph) (words : List (List ℕ)) (count : ℕ) (classes : List ℕ) (q : Graph) (first : List (List ℕ)) (s : IsShortlex g words) (p : IsPartition g count classes) (h : IsQuotient g count classes q) (f : AreFirstWords count classes words first) where
+module _ (g : Graph) (count : ℕ) (classes : List ℕ) (q : Graph) (s : IsGraph g) (p : IsPartition g count classes) (h : IsQuotient g count classes q) where
   -- a word leads from a node's class to the class of the node to which it leads
   pub quotient_walk : (i : ℕ) (w : List ℕ) → i < g.size → Over g.letters w → walk q (slice_index classes i) w ≡ slice_index classes (walk g i w)
   quotient_walk i [] l o = refl
-  quotient_walk i (a ∷ w) l o = ap (λ c. walk q c w) (h.targets i a l o.0) ∙ quotient_walk (target g i a) w (target_within g i a s.graph l o.0) o.1
+  quotient_walk i (a ∷ w) l o = ap (λ c. walk q c w) (h.targets i a l o.0) ∙ quotient_walk (target g i a) w (target_within g i a s l o.0) o.1
 
   pub quotient_node : (w : List ℕ) → Over g.letters w → node q w ≡ slice_index classes (node g w)
   quotient_node w o =
-      let root : slice_index classes 0 ≡ 0 = root_class count classes p.numbering (let r = s.graph.root in let e = p.long in omega arith) in
-      ap (λ c. walk q c w) (sym root) ∙ quotient_walk 0 w s.graph.root o
+      let root : slice_index classes 0 ≡ 0 = root_class count classes p.numbering (let r = s.root in let e = p.long in omega arith) in
+      ap (λ c. walk q c w) (sym root) ∙ quotient_walk 0 w s.root o
+
+module _ (g : Graph) (words : List (List ℕ)) (count : ℕ) (classes : List ℕ) (q : Graph) (first : List (List ℕ)) (s : IsShortlex g words) (p : IsPartition g count classes) (h : IsQuotient g count classes q) (f : AreFirstWords count classes words first) where
+  in_quotient : (w : List ℕ) → Over g.letters w → node q w ≡ slice_index classes (node g w)
+  in_quotient = quotient_node g count classes q s.graph p h
 
   -- a class has the word of its first node
   first_word : (c i : ℕ) → c < count → IsFirst classes c i → Over g.letters (word_at first c) × (node q (word_at first c) ≡ c)
@@ -56,7 +60,7 @@ module _ (g : Graph) (words : List (List ℕ)) (count : ℕ) (classes : List ℕ
       let e : word_at first c ≡ word_at words i = f.at c i l m in
       let in_g : i < g.size = (let d = p.long in let b = m.within in omega arith) in
       let o : Over g.letters (word_at first c) = subst (Over g.letters) (sym e) (node_word_over g words s i in_g) in
-      (o, quotient_node (word_at first c) o ∙ (ap (λ w. slice_index classes (node g w)) e ∙ (ap (slice_index classes) (s.leads i in_g) ∙ m.member)))
+      (o, in_quotient (word_at first c) o ∙ (ap (λ w. slice_index classes (node g w)) e ∙ (ap (slice_index classes) (s.leads i in_g) ∙ m.member)))
 
   pub first_word_over : (c : ℕ) → c < count → Over g.letters (word_at first c)
   first_word_over c l = let (i, m) = first_node count classes c p.numbering l in (first_word c i l m).0
@@ -87,7 +91,7 @@ module _ (g : Graph) (words : List (List ℕ)) (count : ℕ) (classes : List ℕ
       let (i, a) = first_node count classes c p.numbering l in
       let j = node g w in
       let in_g : j < g.size = node_within g w s.graph o in
-      let m : slice_index classes j ≡ c = sym (quotient_node w o) ∙ e in
+      let m : slice_index classes j ≡ c = sym (in_quotient w o) ∙ e in
       subst (λ x. ¬ (w ⊏ x)) (sym (f.at c i l a)) (not_greater_trans (word_at words i) (word_at words j) w (first_not_greater c i j a in_g m) (node_word_least g words s w o))
 
   first_words_least : AreRepresentatives g.letters (SameNode q) first
@@ -100,7 +104,7 @@ module _ (g : Graph) (words : List (List ℕ)) (count : ℕ) (classes : List ℕ
     where
       place : (w : List ℕ) → Over g.letters w → IsPlaceOf (SameNode q) first w (node q w)
       place w o =
-          let l : node q w < count = (let e = quotient_node w o in let b = p.numbering.within (node g w) (let d = p.long in let n = node_within g w s.graph o in omega arith) in omega arith) in
+          let l : node q w < count = (let e = in_quotient w o in let b = p.numbering.within (node g w) (let d = p.long in let n = node_within g w s.graph o in omega arith) in omega arith) in
           record {
             within = (let e = f.long in omega arith);
             related = first_word_leads (node q w) l;

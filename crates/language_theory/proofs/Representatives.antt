@@ -5,6 +5,7 @@ use Rattle.language_theory.specs.Words.{Over, word_at, IsFactor, ◌⊏◌}
 use Rattle.language_theory.specs.Representatives.{IsPlaceOf, AreRepresentatives, IsReduced, AreApart, HasMoreClasses}
 use Rattle.language_theory.specs.Congruence.{IsEquivalence, IsRightCongruence, IsCongruence}
 use Rattle.language_theory.proofs.Shortlex.{shortlex_irrefl, shortlex_asymm, neither_smaller, smaller_with_word, shortlex_before, over_or_not, over_append, over_front, over_back}
+use Rattle.language_theory.proofs.Congruences.{right_congruence}
 use Rattle.language_theory.proofs.Numbers.{pigeonhole, equal_or_not}
 
 -- two rising lists with the same words are equal
@@ -177,9 +178,6 @@ reduced_suffix k same u v c r =
     let ou = over_front k u v r.over in
     let ov = over_back k u v r.over in
     record { over = ov; least = λ w o s h. r.least (u ++ w) (over_append k u w ou o) (c.left w v u o ov ou s) (shortlex_before u w v ∙ h) }
-
-pub right_congruence : (k : ℕ) (same : List ℕ → List ℕ → Type 0) → IsCongruence k same → IsRightCongruence k same
-right_congruence k same c = record { equivalence = c.equivalence; right = c.right }
 
 -- a factor of a reduced word of a congruence is reduced
 pub reduced_factor : (k : ℕ) (same : List ℕ → List ℕ → Type 0) (u w : List ℕ) → IsCongruence k same → IsReduced k same w → IsFactor u w → IsReduced k same u

@@ -1,8 +1,8 @@
--- In a congruence with finitely many classes each word has an index and a period.
+-- In a right congruence with finitely many classes each word has an index and a period.
 use Rattle.std.proofs.Common.{◌≡◌, ◌⊎◌, inl, inr, ℕ, suc, ◌+◌, ◌-◌, ◌%◌, ◌<◌, ◌≤◌, List, length, subst, arith}
 use Rattle.std.proofs.lemmas.Bool.{cases_lt}
 use Rattle.language_theory.specs.Words.{Over, power}
-use Rattle.language_theory.specs.Congruence.{IsCongruence}
+use Rattle.language_theory.specs.Congruence.{IsRightCongruence}
 use Rattle.language_theory.specs.Representatives.{AreRepresentatives, IsPlaceOf}
 use Rattle.language_theory.specs.Powers.{Repeats, IsIndexAndPeriod}
 use Rattle.language_theory.proofs.Numbers.{equal_or_not, least_or_none, pigeonhole}
@@ -40,7 +40,7 @@ first_return f m into = elim (least_or_none (Returns f) (returns_or_not f) (suc 
 ]
 
 -- of a word whose powers x^n have the places `place n`
-module _ (k : ℕ) (same : List ℕ → List ℕ → Type 0) (words : List (List ℕ)) (c : IsCongruence k same) (l : AreRepresentatives k same words) (x : List ℕ) (o : Over k x) (place : ℕ → ℕ) (placed : (n : ℕ) → IsPlaceOf same words (power n x) (place n)) where
+module _ (k : ℕ) (same : List ℕ → List ℕ → Type 0) (words : List (List ℕ)) (c : IsRightCongruence k same) (l : AreRepresentatives k same words) (x : List ℕ) (o : Over k x) (place : ℕ → ℕ) (placed : (n : ℕ) → IsPlaceOf same words (power n x) (place n)) where
   from_place : (a b : ℕ) → place a ≡ place b → same (power a x) (power b x)
   from_place a b e = same_place_related k same words l c.equivalence (power a x) (power b x) (place b) (over_power k a x o) (over_power k b x o) (subst (IsPlaceOf same words (power a x)) e (placed a)) (placed b)
 
@@ -81,5 +81,5 @@ module _ (k : ℕ) (same : List ℕ → List ℕ → Type 0) (words : List (List
       by (j, m, r) = (j, m - j, at_first_return j (m - j) (let h = r.before in subst (IsFirstReturn place j) (let e : m ≡ j + (m - j) = omega arith in e) r))
 
 -- each word has an index and a period
-pub index_exists : (k : ℕ) (same : List ℕ → List ℕ → Type 0) (words : List (List ℕ)) → IsCongruence k same → AreRepresentatives k same words → (x : List ℕ) → Over k x → (i p : ℕ) × IsIndexAndPeriod same x i p
+pub index_exists : (k : ℕ) (same : List ℕ → List ℕ → Type 0) (words : List (List ℕ)) → IsRightCongruence k same → AreRepresentatives k same words → (x : List ℕ) → Over k x → (i p : ℕ) × IsIndexAndPeriod same x i p
 index_exists k same words c l x o = index_of_places k same words c l x o (λ n. word_place k same words l (power n x)) (λ n. word_place_is k same words l (power n x) (over_power k n x o))

@@ -1,7 +1,7 @@
 //! Laws of Green's relations.
 ghost use Rattle.std.specs.Prelude.{◌≡◌, ◌<◌, ◌↔◌, ◌++◌, ℕ, List, length};
 ghost use Rattle.language_theory.specs.Words.{Over, word_at};
-ghost use Rattle.language_theory.specs.Congruence.{IsEquivalence, IsCongruence};
+ghost use Rattle.language_theory.specs.Congruence.{IsEquivalence, IsRightCongruence, IsCongruence};
 ghost use Rattle.language_theory.specs.Representatives.{AreRepresentatives};
 ghost use Rattle.language_theory.specs.ShortlexGraph.{Graph, walk};
 ghost use Rattle.language_theory.specs.Products.{IsRightGraph, IsLeftGraph};
@@ -9,9 +9,10 @@ ghost use Rattle.language_theory.specs.Green.{IsInRight, IsInLeft, IsInIdeal, Is
 
 use crate::language::Relation;
 
-/// R, L, J and H are equivalences, and related words are in one class of H.
+/// R is an equivalence where the relation is a right congruence, and L, J and H are where it is a congruence. Words
+/// that an equivalence relates are in one class of H.
 pub fn greens_relations_are_equivalences<R: Relation>()
-    ensures right { (k : ℕ) → IsCongruence k R.same → IsEquivalence k (IsR k R.same) }
+    ensures right { (k : ℕ) → IsRightCongruence k R.same → IsEquivalence k (IsR k R.same) }
     ensures left { (k : ℕ) → IsCongruence k R.same → IsEquivalence k (IsL k R.same) }
     ensures two_sided { (k : ℕ) → IsCongruence k R.same → IsEquivalence k (IsJ k R.same) }
     ensures both { (k : ℕ) → IsCongruence k R.same → IsEquivalence k (IsH k R.same) }
@@ -46,9 +47,9 @@ pub fn trivial_on_both_sides<R: Relation>()
 {}
 
 /// The ideals of an element are what walks from it lead to: in the right Cayley graph, in the left one, in one and
-/// then the other.
+/// then the other. For right ideals a right congruence is enough.
 pub fn ideals_are_walks<R: Relation>()
-    ensures right { (k : ℕ) (words : List (List ℕ)) → IsCongruence k R.same → AreRepresentatives k R.same words → (d : Graph) → IsRightGraph k R.same words d → (i j : ℕ) → i < length words → j < length words → IsInRight k R.same (word_at words j) (word_at words i) ↔ ((x : List ℕ) × Over k x × (walk d i x ≡ j)) }
+    ensures right { (k : ℕ) (words : List (List ℕ)) → IsRightCongruence k R.same → AreRepresentatives k R.same words → (d : Graph) → IsRightGraph k R.same words d → (i j : ℕ) → i < length words → j < length words → IsInRight k R.same (word_at words j) (word_at words i) ↔ ((x : List ℕ) × Over k x × (walk d i x ≡ j)) }
     ensures left { (k : ℕ) (words : List (List ℕ)) → IsCongruence k R.same → AreRepresentatives k R.same words → (e : Graph) → IsLeftGraph k R.same words e → (i j : ℕ) → i < length words → j < length words → IsInLeft k R.same (word_at words j) (word_at words i) ↔ ((x : List ℕ) × Over k x × (walk e i x ≡ j)) }
     ensures two_sided { (k : ℕ) (words : List (List ℕ)) → IsCongruence k R.same → AreRepresentatives k R.same words → (d e : Graph) → IsRightGraph k R.same words d → IsLeftGraph k R.same words e → (i j : ℕ) → i < length words → j < length words → IsInIdeal k R.same (word_at words j) (word_at words i) ↔ ((x y : List ℕ) × Over k x × Over k y × (walk e (walk d i x) y ≡ j)) }
 {}
@@ -63,9 +64,9 @@ pub fn agreeing_relations_have_the_same_ideals<R: Relation, S: Relation>()
 {}
 
 /// Where the elements are numbers, the values of words, an ideal of the value of s is what products with it have as
-/// values.
+/// values. For right ideals it is enough that to have one value is a right congruence.
 pub fn ideals_of_values()
-    ensures right { (k : ℕ) (value : List ℕ → ℕ) → IsCongruence k (λ u v. value u ≡ value v) → (s t : List ℕ) → Over k s → IsInRight k (λ u v. value u ≡ value v) t s ↔ ((w y : List ℕ) × Over k w × Over k y × (value w ≡ value s) × (value (w ++ y) ≡ value t)) }
+    ensures right { (k : ℕ) (value : List ℕ → ℕ) → IsRightCongruence k (λ u v. value u ≡ value v) → (s t : List ℕ) → Over k s → IsInRight k (λ u v. value u ≡ value v) t s ↔ ((w y : List ℕ) × Over k w × Over k y × (value w ≡ value s) × (value (w ++ y) ≡ value t)) }
     ensures left { (k : ℕ) (value : List ℕ → ℕ) → IsCongruence k (λ u v. value u ≡ value v) → (s t : List ℕ) → Over k s → IsInLeft k (λ u v. value u ≡ value v) t s ↔ ((w x : List ℕ) × Over k w × Over k x × (value w ≡ value s) × (value (x ++ w) ≡ value t)) }
     ensures two_sided { (k : ℕ) (value : List ℕ → ℕ) → IsCongruence k (λ u v. value u ≡ value v) → (s t : List ℕ) → Over k s → IsInIdeal k (λ u v. value u ≡ value v) t s ↔ ((w x y : List ℕ) × Over k w × Over k x × Over k y × (value w ≡ value s) × (value (x ++ (w ++ y)) ≡ value t)) }
 {}

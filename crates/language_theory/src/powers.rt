@@ -1,24 +1,25 @@
 //! Laws of the powers of a word.
 ghost use Rattle.std.specs.Prelude.{◌≡◌, ◌<◌, ◌≤◌, ◌⊎◌, ◌+◌, ◌%◌, ◌↔◌, ℕ, List};
 ghost use Rattle.language_theory.specs.Words.{Over, power};
-ghost use Rattle.language_theory.specs.Congruence.{IsCongruence, Syntactic};
+ghost use Rattle.language_theory.specs.Congruence.{IsRightCongruence, IsCongruence, Syntactic};
 ghost use Rattle.language_theory.specs.Representatives.{AreRepresentatives};
 ghost use Rattle.language_theory.specs.Nerode.{MinimalAutomaton, IsMinimal};
 ghost use Rattle.language_theory.specs.Separation.{Separates, IsSeparation};
-ghost use Rattle.language_theory.specs.Powers.{IsIndexAndPeriod, IsAperiodic, IsFirstLoop, NeverSettle};
+ghost use Rattle.language_theory.specs.Powers.{Repeats, IsIndexAndPeriod, IsAperiodic, IsFirstLoop, NeverSettle};
 
 use crate::language::{Language, Relation};
 
-/// A word has at most one index and period, and has them where there are finitely many classes.
+/// A word has at most one index and period, and has them in a right congruence with finitely many classes.
 pub fn index_and_period_are_unique<R: Relation>()
-    ensures exists { (k : ℕ) (words : List (List ℕ)) → IsCongruence k R.same → AreRepresentatives k R.same words → (x : List ℕ) → Over k x → (i p : ℕ) × IsIndexAndPeriod R.same x i p }
+    ensures exists { (k : ℕ) (words : List (List ℕ)) → IsRightCongruence k R.same → AreRepresentatives k R.same words → (x : List ℕ) → Over k x → (i p : ℕ) × IsIndexAndPeriod R.same x i p }
     ensures index { (x : List ℕ) (i p j q : ℕ) → IsIndexAndPeriod R.same x i p → IsIndexAndPeriod R.same x j q → i ≡ j }
     ensures period { (x : List ℕ) (i p j q : ℕ) → IsIndexAndPeriod R.same x i p → IsIndexAndPeriod R.same x j q → p ≡ q }
 {}
 
-/// From the index on two powers are related exactly where their exponents differ by a number of periods.
+/// In a right congruence two powers from the index on are related exactly where their exponents differ by a number of
+/// periods.
 pub fn powers_repeat_with_the_period<R: Relation>()
-    ensures { (k : ℕ) → IsCongruence k R.same → (x : List ℕ) → Over k x → (i p n m : ℕ) → IsIndexAndPeriod R.same x i p → i ≤ n → i ≤ m → R.same (power n x) (power m x) ↔ (n % p ≡ m % p) }
+    ensures { (k : ℕ) → IsRightCongruence k R.same → (x : List ℕ) → Over k x → (i p n m : ℕ) → IsIndexAndPeriod R.same x i p → i ≤ n → i ≤ m → R.same (power n x) (power m x) ↔ (n % p ≡ m % p) }
 {}
 
 /// Related words have the same index and period.
@@ -39,15 +40,16 @@ pub fn loops_never_settle<L: Language>()
     ensures { (k : ℕ) (d : MinimalAutomaton) → IsMinimal k L.has d → (x : List ℕ) (i p : ℕ) → Over k x → IsIndexAndPeriod (Syntactic k L.has) x i p → 1 < p → (u v : List ℕ) × IsSeparation k L.has (power i x) (power (i + 1) x) u v × NeverSettle L.has u x v }
 {}
 
-/// A context that separates x^i from x^(i+1), where i is the index of x, gives words that never settle.
+/// Where x^i comes back after p steps and p is not 0, a context that separates x^i from x^(i+1) gives words that never
+/// settle.
 pub fn separated_powers_never_settle<L: Language>()
-    ensures { (k : ℕ) (u x v : List ℕ) → Over k u → Over k x → Over k v → (i p : ℕ) → IsIndexAndPeriod (Syntactic k L.has) x i p → Separates L.has (power i x) (power (i + 1) x) u v → NeverSettle L.has u x v }
+    ensures { (k : ℕ) (u x v : List ℕ) → Over k u → Over k x → Over k v → (i p : ℕ) → 1 ≤ p → Repeats (Syntactic k L.has) x i p → Separates L.has (power i x) (power (i + 1) x) u v → NeverSettle L.has u x v }
 {}
 
-/// Where the period of x is 1, or the syntactic congruence is aperiodic with finitely many classes, u, x and v do not
-/// fail to settle.
+/// Where x^i is syntactically congruent to x^(i+1) for some i, or the syntactic congruence is aperiodic with finitely
+/// many classes, u, x and v do not fail to settle.
 pub fn aperiodic_powers_settle<L: Language>()
-    ensures one { (k : ℕ) (u x v : List ℕ) → Over k u → Over k x → Over k v → (i : ℕ) → IsIndexAndPeriod (Syntactic k L.has) x i 1 → ¬ NeverSettle L.has u x v }
+    ensures one { (k : ℕ) (u x v : List ℕ) → Over k u → Over k x → Over k v → (i : ℕ) → Repeats (Syntactic k L.has) x i 1 → ¬ NeverSettle L.has u x v }
     ensures all { (k : ℕ) (u x v : List ℕ) → Over k u → Over k x → Over k v → (words : List (List ℕ)) → AreRepresentatives k (Syntactic k L.has) words → IsAperiodic k (Syntactic k L.has) → ¬ NeverSettle L.has u x v }
 {}
 

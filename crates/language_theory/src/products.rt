@@ -1,7 +1,7 @@
 //! Laws of products, of the two Cayley graphs and of the links of a list of representatives.
 ghost use Rattle.std.specs.Prelude.{◌≡◌, ◌<◌, ◌↔◌, ◌++◌, ◌∷◌, [], ℕ, List, length, reverse};
 ghost use Rattle.language_theory.specs.Words.{Over, word_at};
-ghost use Rattle.language_theory.specs.Congruence.{IsEquivalence, IsCongruence};
+ghost use Rattle.language_theory.specs.Congruence.{IsEquivalence, IsRightCongruence, IsCongruence};
 ghost use Rattle.language_theory.specs.Representatives.{IsPlaceOf, AreRepresentatives};
 ghost use Rattle.language_theory.specs.ShortlexGraph.{Graph, walk, node, IsGraphOf};
 ghost use Rattle.language_theory.specs.Products.{IsProduct, IsRight, IsLeft, IsRightGraph, IsLeftGraph, IsPrefixLink, IsSuffixLink};
@@ -23,26 +23,27 @@ pub fn products_form_a_monoid<R: Relation>()
     ensures behind { (k : ℕ) (words : List (List ℕ)) → IsEquivalence k R.same → AreRepresentatives k R.same words → (i : ℕ) → i < length words → IsProduct R.same words i 0 i }
 {}
 
-/// A letter behind or before any word of a place gives a word of the place that the right or the left Cayley graph
-/// has. The shortlex graph of a congruence is its right Cayley graph.
+/// In a right congruence a letter behind any word of a place gives a word of the place that the right Cayley graph has,
+/// and in a congruence a letter before it gives a word of the place that the left Cayley graph has. The shortlex graph
+/// of a relation is its right Cayley graph, and there a word leads to its place.
 pub fn letters_act_on_places<R: Relation>()
-    ensures right { (k : ℕ) (words : List (List ℕ)) → IsCongruence k R.same → AreRepresentatives k R.same words → (w : List ℕ) (i a r : ℕ) → Over k w → a < k → IsPlaceOf R.same words w i → IsPlaceOf R.same words (w ++ a ∷ []) r ↔ IsRight R.same words i a r }
+    ensures right { (k : ℕ) (words : List (List ℕ)) → IsRightCongruence k R.same → AreRepresentatives k R.same words → (w : List ℕ) (i a r : ℕ) → Over k w → a < k → IsPlaceOf R.same words w i → IsPlaceOf R.same words (w ++ a ∷ []) r ↔ IsRight R.same words i a r }
     ensures left { (k : ℕ) (words : List (List ℕ)) → IsCongruence k R.same → AreRepresentatives k R.same words → (w : List ℕ) (a i r : ℕ) → Over k w → a < k → IsPlaceOf R.same words w i → IsPlaceOf R.same words (a ∷ w) r ↔ IsLeft R.same words a i r }
     ensures graph { (k : ℕ) (d : Graph) (words : List (List ℕ)) → IsGraphOf k R.same d words → IsRightGraph k R.same words d }
     ensures node { (k : ℕ) (d : Graph) (words : List (List ℕ)) → IsGraphOf k R.same d words → (w : List ℕ) → Over k w → IsPlaceOf R.same words w (node d w) }
 {}
 
-/// A walk in the right Cayley graph multiplies by its word on the right, and a walk in the left one by its reversed
-/// word on the left.
+/// In a right congruence a walk in the right Cayley graph multiplies by its word on the right, and in a congruence a
+/// walk in the left one multiplies by its reversed word on the left.
 pub fn walks_are_products<R: Relation>()
-    ensures right { (k : ℕ) (words : List (List ℕ)) → IsCongruence k R.same → AreRepresentatives k R.same words → (d : Graph) → IsRightGraph k R.same words d → (x : List ℕ) (i : ℕ) → i < length words → Over k x → IsPlaceOf R.same words (word_at words i ++ x) (walk d i x) }
+    ensures right { (k : ℕ) (words : List (List ℕ)) → IsRightCongruence k R.same → AreRepresentatives k R.same words → (d : Graph) → IsRightGraph k R.same words d → (x : List ℕ) (i : ℕ) → i < length words → Over k x → IsPlaceOf R.same words (word_at words i ++ x) (walk d i x) }
     ensures left { (k : ℕ) (words : List (List ℕ)) → IsCongruence k R.same → AreRepresentatives k R.same words → (d : Graph) → IsLeftGraph k R.same words d → (x : List ℕ) (i : ℕ) → i < length words → Over k x → IsPlaceOf R.same words (reverse x ++ word_at words i) (walk d i x) }
 {}
 
-/// Each listed word but the first is a listed word and a last letter, and a first letter and a listed word, each in
-/// one way, and the listed words stand before it.
+/// In a right congruence each listed word but the first is a listed word and a last letter, and in a congruence it is
+/// also a first letter and a listed word. There is one way of each, and the listed words of both stand before it.
 pub fn links_are_unique<R: Relation>()
-    ensures prefix { (k : ℕ) (words : List (List ℕ)) → IsCongruence k R.same → AreRepresentatives k R.same words → (i : ℕ) → 0 < i → i < length words → (p a : ℕ) × (a < k) × IsPrefixLink words i p a }
+    ensures prefix { (k : ℕ) (words : List (List ℕ)) → IsRightCongruence k R.same → AreRepresentatives k R.same words → (i : ℕ) → 0 < i → i < length words → (p a : ℕ) × (a < k) × IsPrefixLink words i p a }
     ensures suffix { (k : ℕ) (words : List (List ℕ)) → IsCongruence k R.same → AreRepresentatives k R.same words → (i : ℕ) → 0 < i → i < length words → (a s : ℕ) × (a < k) × IsSuffixLink words i a s }
     ensures one_prefix { (k : ℕ) (words : List (List ℕ)) → AreRepresentatives k R.same words → (i p a q b : ℕ) → IsPrefixLink words i p a → IsPrefixLink words i q b → (p ≡ q) × (a ≡ b) }
     ensures one_suffix { (k : ℕ) (words : List (List ℕ)) → AreRepresentatives k R.same words → (i a s b t : ℕ) → IsSuffixLink words i a s → IsSuffixLink words i b t → (a ≡ b) × (s ≡ t) }

@@ -41,8 +41,8 @@ pub fn classes_have_first_nodes()
 {}
 
 /// The quotient of a shortlex graph by a partition is a shortlex graph, whose words are those of the classes' first
-/// nodes, and a word leads there to the class of the node to which it led.
+/// nodes. In the quotient of any graph by a partition a word leads to the class of the node to which it led.
 pub fn quotients_are_shortlex_graphs()
     ensures shortlex { (g q : Graph) (words first : List (List ℕ)) (count : ℕ) (classes : List ℕ) → IsShortlex g words → IsPartition g count classes → IsQuotient g count classes q → AreFirstWords count classes words first → IsShortlex q first }
-    ensures node { (g q : Graph) (words first : List (List ℕ)) (count : ℕ) (classes : List ℕ) → IsShortlex g words → IsPartition g count classes → IsQuotient g count classes q → AreFirstWords count classes words first → (w : List ℕ) → Over g.letters w → node q w ≡ slice_index classes (node g w) }
+    ensures node { (g q : Graph) (count : ℕ) (classes : List ℕ) → IsGraph g → IsPartition g count classes → IsQuotient g count classes q → (w : List ℕ) → Over g.letters w → node q w ≡ slice_index classes (node g w) }
 {}

@@ -5,4 +5,4 @@ pub returns-clause-shortlex : goal.returns-clause-shortlex
 returns-clause-shortlex c graph q words first count classes = quotient_shortlex graph words count classes q first
 
 pub returns-clause-node : goal.returns-clause-node
-returns-clause-node c graph q words first count classes = quotient_node graph words count classes q first
+returns-clause-node c graph q count classes = quotient_node graph count classes q
