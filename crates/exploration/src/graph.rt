@@ -70,6 +70,7 @@ impl ShortlexGraph {
         ensures walk { result ≡ walk self.now from word.now }
         ensures within { result < self.now.size }
     {
+        // Its contract tells that this is a graph.
         let _size = self.size();
         let mut node = from;
         for letter in word.letters() {

@@ -39,6 +39,7 @@ pub fn quotient(
     requires firsts { AreFirstNodes partition.now.count partition.now.classes firsts.now }
     ensures { IfOk result (λ q. IsQuotient graph.now partition.now.count partition.now.classes q) }
 {
+    // Its contract tells that this is a graph.
     let _size = graph.size();
     let mut targets = Vec::new(alloc);
     for first in firsts {

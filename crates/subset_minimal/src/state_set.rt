@@ -33,10 +33,7 @@ impl StateSet {
     pub(crate) fn initial(alloc: Global, nfa: &Nfa) -> Result<StateSet, Memory>
         ensures { IfOk result (λ set. set ≡ nfa.now.initial) }
     {
-        let mut marks = Vec::with_capacity(alloc, nfa.states() as usize)?;
-        for state in 0..nfa.states() {
-            marks.push(nfa.is_initial(state))?;
-        }
+        let marks = Vec::from_slice(alloc, nfa.initials())?;
         Ok(StateSet { marks })
     }
 

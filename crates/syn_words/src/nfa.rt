@@ -145,8 +145,16 @@ impl Nfa {
         self.steps.as_slice()
     }
 
+    /// For each state whether it is initial.
+    pub fn initials(&self) -> &[bool]
+        ensures initial { result.now ≡ self.now.initial }
+        ensures automaton { IsAutomaton self.now }
+    {
+        self.initial.as_slice()
+    }
+
     /// For each state whether it is final.
-    pub(crate) fn finals(&self) -> &[bool]
+    pub fn finals(&self) -> &[bool]
         ensures finals { result.now ≡ self.now.finals }
         ensures automaton { IsAutomaton self.now }
     {

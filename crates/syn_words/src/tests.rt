@@ -90,17 +90,14 @@ fn copies_automata(rt: HostRuntime) -> Result<(), Fail> {
     let copy = nfa.copy()?;
     assert_eq!(rt; copy.letters(), 2);
     assert_eq!(rt; copy.steps(), nfa.steps());
-    let marks = [
-        (true, true),
-        (true, false),
-        (false, false),
-        (false, false),
-        (false, false),
-    ];
-    for (state, (initial, is_final)) in marks.iter().enumerate() {
-        assert_eq!(rt; copy.is_initial(state as u32), *initial);
-        assert_eq!(rt; copy.is_final(state as u32), *is_final);
-    }
+    assert_eq!(rt;
+        copy.initials(),
+        [true, true, false, false, false].as_slice()
+    );
+    assert_eq!(rt;
+        copy.finals(),
+        [true, false, false, false, false].as_slice()
+    );
     Ok(())
 }
 

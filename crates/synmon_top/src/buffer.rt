@@ -60,7 +60,7 @@ impl Buffer {
     }
 }
 
-/// Says a text.
+/// Says a text: it goes into the buffer, and `flush` writes it.
 pub fn say<S: Sink>(sink: &mut S, buffer: &mut Buffer, text: &[u8]) -> Result<(), SayFault>
     requires { buffer.old.broken ≡ false }
     ensures said { OnOk result (IsSaid (S.written sink.old) buffer.old (S.written sink.new) buffer.new text.now) }
@@ -68,6 +68,7 @@ pub fn say<S: Sink>(sink: &mut S, buffer: &mut Buffer, text: &[u8]) -> Result<()
     ensures failed { IsErrOf result SayFault.Write → Rose (S.faults sink.old) (S.faults sink.new) }
     ensures count { S.faults sink.old ≤ S.faults sink.new }
 {
+    // The sink takes nothing yet; its contract tells that what it was given is as before.
     let _sink = sink;
     if buffer.bytes.extend_from_slice(text).is_err() {
         buffer.broken = true;
