@@ -111,7 +111,7 @@ impl Signature {
         requires node { node < graph.now.size }
         ensures { IfOk result (λ s. s ≡ signature graph.now marks.now classes.now node) }
     {
-        let mut parts = Vec::new(alloc);
+        let mut parts = Vec::with_capacity(alloc, usize::from(graph.letters()) + 2)?;
         parts.push(u32::from(marks[node as usize]))?;
         parts.push(classes[node as usize])?;
         push_target_classes(graph, classes, node, &mut parts)?;
@@ -169,7 +169,7 @@ fn split(
 {
     let classes = coarse.classes();
     let mut seen = IndexSet::new(alloc);
-    let mut finer = Vec::new(alloc);
+    let mut finer = Vec::with_capacity(alloc, graph.size() as usize)?;
     for node in 0..graph.size() {
         let signature = Signature::of(alloc, graph, marks, classes, node)?;
         let (class, _) = seen.insert_full(signature)?;
