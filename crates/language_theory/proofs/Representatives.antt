@@ -1,5 +1,6 @@
 -- The laws of lists of least representatives.
-use Rattle.std.proofs.Common.{◌≡◌, ◌≢◌, ℕ, zero, suc, ◌<◌, ◌≤◌, ◌⊎◌, inl, inr, ◌↔◌, List, [], ◌∷◌, ◌++◌, length, refl, sym, subst, ◌∙◌, arith}
+use Rattle.std.proofs.Common.{◌≡◌, ◌≢◌, ℕ, zero, suc, ◌<◌, ◌≤◌, ◌⊎◌, inl, inr, ◌↔◌, List, [], ◌∷◌, ◌++◌, length, refl, ap, sym, subst, ◌∙◌, arith}
+use Rattle.std.proofs.lemmas.List.{get_or_past}
 use Rattle.std.proofs.lemmas.Bool.{cases_lt}
 use Rattle.language_theory.specs.Words.{Over, word_at, IsFactor, ◌⊏◌}
 use Rattle.language_theory.specs.Representatives.{IsPlaceOf, AreRepresentatives, IsReduced, AreApart, HasMoreClasses}
@@ -7,6 +8,10 @@ use Rattle.language_theory.specs.Congruence.{IsEquivalence, IsRightCongruence, I
 use Rattle.language_theory.proofs.Shortlex.{shortlex_irrefl, shortlex_asymm, neither_smaller, smaller_with_word, shortlex_before, over_or_not, over_append, over_front, over_back}
 use Rattle.language_theory.proofs.Congruences.{right_congruence}
 use Rattle.language_theory.proofs.Numbers.{pigeonhole, equal_or_not}
+
+-- the word at a place behind the end is empty, so a place whose word has a letter is one of the list
+pub within_by_letters : (words : List (List ℕ)) (i : ℕ) → 0 < length (word_at words i) → i < length words
+within_by_letters words i h = elim (cases_lt i (length words)) [ inl l ↦ l | inr l ↦ absurd (let e = ap length (get_or_past words i [] l) in omega arith) ]
 
 -- two rising lists with the same words are equal
 abbrev pub Rises : List (List ℕ) → Type 0

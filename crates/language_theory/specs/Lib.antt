@@ -6,9 +6,4 @@ pub mod Representatives
 pub mod Congruence
 pub mod ShortlexGraph
 pub mod Nerode
-pub mod Products
-pub mod Presentation
-pub mod Green
-pub mod Separation
-pub mod Powers
 pub mod Examples

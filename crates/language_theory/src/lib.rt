@@ -1,17 +1,12 @@
-//! The mathematics of the workbench: its definitions stand in `specs/`, its laws are the contracts of this crate's
-//! functions.
+//! The mathematics below the monoid: words, languages, automata, congruences and shortlex graphs. The definitions
+//! stand in `specs/`, the laws are the contracts of this crate's functions.
 #![tactic(auto)]
 
 pub mod equivalences;
 pub mod examples;
-pub mod green;
 pub mod language;
 pub mod minimal_automata;
 pub mod paths;
-pub mod powers;
-pub mod presentation;
-pub mod products;
 pub mod reduced_words;
-pub mod separation;
 pub mod shortlex_graphs;
 pub mod words;

@@ -1,5 +1,5 @@
 use Rattle.std.proofs.Common.{[], ◌∷◌, length, ap, arith, length-append}
-use Rattle.language_theory.proofs.Links.{within_by_letters}
+use Rattle.language_theory.proofs.Representatives.{within_by_letters}
 use Rattle.language_theory.proofs.Graphs.{root_word, node_word_prefix}
 use Rattle.language_theory.proofs.shortlex_graphs.least_words_are_closed_under_prefixes.Goals as goal
 

@@ -1,5 +1,0 @@
-use Rattle.language_theory.proofs.AbStarRules.{ab_star_has_six_rules}
-use Rattle.language_theory.proofs.examples.ab_star_has_six_rules.Goals as goal
-
-pub returns : goal.returns
-returns c = ab_star_has_six_rules

@@ -1,5 +1,0 @@
-use Rattle.language_theory.proofs.Settling.{never_settles}
-use Rattle.language_theory.proofs.powers.separated_powers_never_settle.Goals as goal
-
-pub returns : goal.returns
-returns g c k = never_settles k g.L.Language.has
