@@ -3,6 +3,7 @@ pub mod Numbers
 pub mod LeastWords
 pub mod Representatives
 pub mod Congruences
+pub mod Links
 pub mod Graphs
 pub mod ShortlexCriterion
 pub mod Quotients

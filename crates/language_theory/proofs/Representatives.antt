@@ -1,17 +1,20 @@
 -- The laws of lists of least representatives.
 use Rattle.std.proofs.Common.{◌≡◌, ◌≢◌, ℕ, zero, suc, ◌<◌, ◌≤◌, ◌⊎◌, inl, inr, ◌↔◌, List, [], ◌∷◌, ◌++◌, length, refl, ap, sym, subst, ◌∙◌, arith}
-use Rattle.std.proofs.lemmas.List.{get_or_past}
 use Rattle.std.proofs.lemmas.Bool.{cases_lt}
 use Rattle.language_theory.specs.Words.{Over, word_at, IsFactor, ◌⊏◌}
 use Rattle.language_theory.specs.Representatives.{IsPlaceOf, AreRepresentatives, IsReduced, AreApart, HasMoreClasses}
 use Rattle.language_theory.specs.Congruence.{IsEquivalence, IsRightCongruence, IsCongruence}
-use Rattle.language_theory.proofs.Shortlex.{shortlex_irrefl, shortlex_asymm, neither_smaller, smaller_with_word, shortlex_before, over_or_not, over_append, over_front, over_back}
+use Rattle.language_theory.proofs.Shortlex.{shortlex_irrefl, shortlex_asymm, shortlex_trichotomy, none_before_nil, neither_smaller, smaller_with_word, shortlex_before, over_or_not, over_append, over_front, over_back}
 use Rattle.language_theory.proofs.Congruences.{right_congruence}
 use Rattle.language_theory.proofs.Numbers.{pigeonhole, equal_or_not}
 
--- the word at a place behind the end is empty, so a place whose word has a letter is one of the list
-pub within_by_letters : (words : List (List ℕ)) (i : ℕ) → 0 < length (word_at words i) → i < length words
-within_by_letters words i h = elim (cases_lt i (length words)) [ inl l ↦ l | inr l ↦ absurd (let e = ap length (get_or_past words i [] l) in omega arith) ]
+-- a word has one place
+pub place_is_one : (same : List ℕ → List ℕ → Type 0) (words : List (List ℕ)) (w : List ℕ) (i j : ℕ) → IsPlaceOf same words w i → IsPlaceOf same words w j → i ≡ j
+place_is_one same words w i j a b = b.only i a.within a.related
+
+-- the empty word is reduced
+pub empty_is_reduced : (k : ℕ) (same : List ℕ → List ℕ → Type 0) → IsReduced k same []
+empty_is_reduced k same = record { over = tt; least = λ v o s. none_before_nil v }
 
 -- two rising lists with the same words are equal
 abbrev pub Rises : List (List ℕ) → Type 0
@@ -89,6 +92,10 @@ module _ (k : ℕ) (same : List ℕ → List ℕ → Type 0) (words : List (List
   pub word_place_is : (w : List ℕ) → Over k w → IsPlaceOf same words w (word_place w)
   word_place_is w o = place_number_is w (over_or_not k w) o
 
+  -- some word is listed
+  pub list_is_not_empty : 0 < length words
+  list_is_not_empty = let (i, p) = r.place [] tt in let h = p.within in omega arith
+
   module _ (q : IsEquivalence k same) where
     pub listed_is_reduced : (i : ℕ) → i < length words → IsReduced k same (word_at words i)
     listed_is_reduced i h = record { over = r.over i h; least = λ v o s. r.least i v h o (q.symm v (word_at words i) o (r.over i h) s) }
@@ -98,6 +105,29 @@ module _ (k : ℕ) (same : List ℕ → List ℕ → Type 0) (words : List (List
     listed_apart i j h g s =
         let (p, at) = r.place (word_at words j) (r.over j g) in
         at.only i h s ∙ sym (at.only j g (q.refl (word_at words j) (r.over j g)))
+
+    -- a listed word has its own place
+    pub place_of_listed : (i : ℕ) → i < length words → IsPlaceOf same words (word_at words i) i
+    place_of_listed i h = let o = r.over i h in let (j, p) = r.place (word_at words i) o in
+        subst (IsPlaceOf same words (word_at words i)) (sym (p.only i h (q.refl (word_at words i) o))) p
+
+    -- the empty word is listed first
+    pub first_is_empty : word_at words 0 ≡ []
+    first_is_empty = by (r.place [] tt)
+      where
+        empty_at : (i : ℕ) → IsPlaceOf same words [] i → word_at words i ≡ []
+        empty_at i p = elim (shortlex_trichotomy (word_at words i) []) [
+          | inl h ↦ absurd (none_before_nil (word_at words i) h)
+          | inr (inl h) ↦ h
+          | inr (inr h) ↦ absurd (r.least i [] p.within tt p.related h)
+        ]
+
+        by : (i : ℕ) × IsPlaceOf same words [] i → word_at words 0 ≡ []
+        by (zero, p) = empty_at zero p
+        by (suc i, p) = absurd (none_before_nil (word_at words 0) (subst (λ (w : List ℕ). word_at words 0 ⊏ w) (empty_at (suc i) p) (r.rise 0 (suc i) (omega arith) p.within)))
+
+    pub place_of_empty : IsPlaceOf same words [] 0
+    place_of_empty = subst (λ (w : List ℕ). IsPlaceOf same words w 0) first_is_empty (place_of_listed 0 list_is_not_empty)
 
     -- related words have one place
     pub place_of_related : (u v : List ℕ) (i : ℕ) → Over k u → Over k v → same u v → IsPlaceOf same words u i → IsPlaceOf same words v i

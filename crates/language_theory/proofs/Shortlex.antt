@@ -247,3 +247,13 @@ last_letter (b ∷ w) = inr (elim (last_letter w) [
   | inl e ↦ ([], b, ap (λ (v : List ℕ). b ∷ v) e)
   | inr (u, a, e) ↦ (b ∷ u, a, ap (λ (v : List ℕ). b ∷ v) e)
 ])
+
+-- a word ends with one letter, behind one word
+pub last_letter_is_one : (u v : List ℕ) (a b : ℕ) → u ++ a ∷ [] ≡ v ++ b ∷ [] → (u ≡ v) × (a ≡ b)
+last_letter_is_one [] [] a b e = (refl, cc)
+last_letter_is_one [] (y ∷ v) a b e = absurd (let l = ap length e in let m = length-append v (b ∷ []) in omega arith)
+last_letter_is_one (x ∷ u) [] a b e = absurd (let l = ap length e in let m = length-append u (a ∷ []) in omega arith)
+last_letter_is_one (x ∷ u) (y ∷ v) a b e =
+    let t : u ++ a ∷ [] ≡ v ++ b ∷ [] = cc in
+    let (r, l) = last_letter_is_one u v a b t in
+    (cc, l)

@@ -3,6 +3,7 @@ pub mod Languages
 pub mod Automaton
 pub mod Runs
 pub mod Representatives
+pub mod Links
 pub mod Congruence
 pub mod ShortlexGraph
 pub mod Nerode

@@ -3,6 +3,7 @@
 ghost use Rattle.std.specs.Prelude.{◌≡◌, ◌<◌, ◌++◌, ◌↔◌, ◌⊎◌, ℕ, List, length};
 ghost use Rattle.language_theory.specs.Words.{Over, IsFactor, word_at};
 ghost use Rattle.language_theory.specs.Representatives.{AreRepresentatives, IsReduced, HasMoreClasses};
+ghost use Rattle.language_theory.specs.Links.{IsPrefixLink, IsSuffixLink};
 ghost use Rattle.language_theory.specs.Congruence.{IsEquivalence, IsRightCongruence, IsCongruence};
 
 use crate::language::Relation;
@@ -38,4 +39,15 @@ pub fn representatives_count_the_classes<R: Relation>()
 /// A list of least representatives decides its equivalence.
 pub fn representatives_decide_the_relation<R: Relation>()
     ensures { (k : ℕ) (words : List (List ℕ)) → IsEquivalence k R.same → AreRepresentatives k R.same words → (u v : List ℕ) → Over k u → Over k v → R.same u v ⊎ ¬ R.same u v }
+{}
+
+/// In a right congruence each listed word but the first is a listed word and a last letter, and in a congruence it is
+/// also a first letter and a listed word. There is one way of each, and the listed words of both stand before it.
+pub fn links_are_unique<R: Relation>()
+    ensures prefix { (k : ℕ) (words : List (List ℕ)) → IsRightCongruence k R.same → AreRepresentatives k R.same words → (i : ℕ) → 0 < i → i < length words → (p a : ℕ) × (a < k) × IsPrefixLink words i p a }
+    ensures suffix { (k : ℕ) (words : List (List ℕ)) → IsCongruence k R.same → AreRepresentatives k R.same words → (i : ℕ) → 0 < i → i < length words → (a s : ℕ) × (a < k) × IsSuffixLink words i a s }
+    ensures one_prefix { (k : ℕ) (words : List (List ℕ)) → AreRepresentatives k R.same words → (i p a q b : ℕ) → IsPrefixLink words i p a → IsPrefixLink words i q b → (p ≡ q) × (a ≡ b) }
+    ensures one_suffix { (k : ℕ) (words : List (List ℕ)) → AreRepresentatives k R.same words → (i a s b t : ℕ) → IsSuffixLink words i a s → IsSuffixLink words i b t → (a ≡ b) × (s ≡ t) }
+    ensures smaller_prefix { (k : ℕ) (words : List (List ℕ)) → AreRepresentatives k R.same words → (i p a : ℕ) → IsPrefixLink words i p a → p < i }
+    ensures smaller_suffix { (k : ℕ) (words : List (List ℕ)) → AreRepresentatives k R.same words → (i a s : ℕ) → IsSuffixLink words i a s → s < i }
 {}

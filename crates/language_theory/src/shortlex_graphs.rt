@@ -21,11 +21,11 @@ pub fn one_shortlex_graph<R: Relation, S: Relation>()
     ensures agreeing { (k : ℕ) (g h : Graph) (xs ys : List (List ℕ)) → ((u v : List ℕ) → Over k u → Over k v → R.same u v ↔ S.same u v) → IsGraphOf k R.same g xs → IsGraphOf k S.same h ys → (g ≡ h) × (xs ≡ ys) }
 {}
 
-/// The word of the root is empty, and the least word of a node without its last letter is the least word of the node
-/// to which it leads.
+/// The word of the root is empty, and a prefix of the least word of a node is the least word of the node to which it
+/// leads.
 pub fn least_words_are_closed_under_prefixes()
     ensures root { (g : Graph) (words : List (List ℕ)) → IsShortlex g words → word_at words 0 ≡ [] }
-    ensures prefix { (g : Graph) (words : List (List ℕ)) (i : ℕ) (u : List ℕ) (a : ℕ) → IsShortlex g words → word_at words i ≡ u ++ a ∷ [] → word_at words (node g u) ≡ u }
+    ensures prefix { (g : Graph) (words : List (List ℕ)) → IsShortlex g words → (i : ℕ) (u v : List ℕ) → i < g.size → word_at words i ≡ u ++ v → word_at words (node g u) ≡ u }
 {}
 
 /// A graph is a shortlex graph where its words begin with the empty one, rise, lead to their nodes, and no word of a

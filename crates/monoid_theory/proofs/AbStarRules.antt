@@ -6,13 +6,14 @@ use Rattle.monoid_theory.proofs.SmallTests.{at_every_two, is_less, less_if, unde
 use Rattle.language_theory.specs.Congruence.{Syntactic, IsCongruence}
 use Rattle.language_theory.specs.Representatives.{AreRepresentatives, IsPlaceOf}
 use Rattle.language_theory.specs.ShortlexGraph.{target}
-use Rattle.monoid_theory.specs.Products.{IsRight, IsSuffixLink}
+use Rattle.language_theory.specs.Links.{IsSuffixLink}
+use Rattle.monoid_theory.specs.Products.{IsRight}
 use Rattle.monoid_theory.specs.Presentation.{IsRule, AreRules, rule_at}
 use Rattle.language_theory.specs.Examples.{IsAbStar}
 use Rattle.monoid_theory.specs.Examples.{ab_star_monoid, ab_star_elements, ab_star_rules}
 use Rattle.language_theory.proofs.Congruences.{syntactic_congruence}
 use Rattle.language_theory.proofs.Graphs.{graph_list}
-use Rattle.monoid_theory.proofs.Places.{place_is_one}
+use Rattle.language_theory.proofs.Representatives.{place_is_one}
 use Rattle.monoid_theory.proofs.Cayley.{graph_is_right}
 use Rattle.monoid_theory.proofs.RulePlaces.{rule_is_at_place, rule_by_places, letter_rule}
 use Rattle.monoid_theory.proofs.AbStarMonoid.{ab_star_monoid_graph}
@@ -28,22 +29,22 @@ right = (graph_is_right 2 (Syntactic 2 IsAbStar) ab_star_monoid ab_star_elements
 
 -- the word at i with the letter a is a left side where it is not listed, but is without its first letter
 by_places : (i a b s : ℕ) → a < 2 → i < 6 → IsSuffixLink ab_star_elements i b s → IsRule 2 (Syntactic 2 IsAbStar) ab_star_elements (word_at ab_star_elements i ++ a ∷ []) (target ab_star_monoid i a) ↔ (¬ (word_at ab_star_elements (target ab_star_monoid i a) ≡ word_at ab_star_elements i ++ a ∷ []) × (word_at ab_star_elements (target ab_star_monoid s a) ≡ word_at ab_star_elements s ++ a ∷ []))
-by_places i a b s ha hi link = rule_by_places 2 (Syntactic 2 IsAbStar) ab_star_elements congruence.equivalence list i a (target ab_star_monoid i a) b s (target ab_star_monoid s a) ha hi (right i a hi ha) link (right s a link.within ha)
+by_places i a b s ha hi link = rule_by_places 2 (Syntactic 2 IsAbStar) ab_star_elements congruence.equivalence list i a (target ab_star_monoid i a) b s (target ab_star_monoid s a) ha (right i a hi ha) link (right s a link.suffix ha)
 
 link_a : IsSuffixLink ab_star_elements 1 0 0
-link_a = record { within = omega arith; splits = refl }
+link_a = record { whole = omega arith; suffix = omega arith; splits = refl }
 
 link_b : IsSuffixLink ab_star_elements 2 1 0
-link_b = record { within = omega arith; splits = refl }
+link_b = record { whole = omega arith; suffix = omega arith; splits = refl }
 
 link_aa : IsSuffixLink ab_star_elements 3 0 1
-link_aa = record { within = omega arith; splits = refl }
+link_aa = record { whole = omega arith; suffix = omega arith; splits = refl }
 
 link_ab : IsSuffixLink ab_star_elements 4 0 2
-link_ab = record { within = omega arith; splits = refl }
+link_ab = record { whole = omega arith; suffix = omega arith; splits = refl }
 
 link_ba : IsSuffixLink ab_star_elements 5 1 1
-link_ba = record { within = omega arith; splits = refl }
+link_ba = record { whole = omega arith; suffix = omega arith; splits = refl }
 
 each : (n : ℕ) → n < 6 → IsRule 2 (Syntactic 2 IsAbStar) ab_star_elements (rule_at ab_star_rules n).0 (rule_at ab_star_rules n).1
 each zero h = (by_places 2 1 1 0 (omega arith) (omega arith) link_b).1 (λ e. cc, refl)
@@ -83,7 +84,7 @@ ab_star_has_six_rules = record { each = each; rise = rise; all = all }
       where
         by : (i a : ℕ) × (i < 6) × (a < 2) × (left ≡ word_at ab_star_elements i ++ a ∷ []) → (n : ℕ) × (n < 6) × (rule_at ab_star_rules n ≡ (left, right_side))
         by (i, a, h, g, e) =
-            let t : right_side ≡ target ab_star_monoid i a = place_is_one (Syntactic 2 IsAbStar) ab_star_elements (word_at ab_star_elements i ++ a ∷ []) right_side (target ab_star_monoid i a) (subst (λ (w : List ℕ). IsPlaceOf (Syntactic 2 IsAbStar) ab_star_elements w right_side) e r.place) (right i a h g) in
+            let t : right_side ≡ target ab_star_monoid i a = place_is_one (Syntactic 2 IsAbStar) ab_star_elements (word_at ab_star_elements i ++ a ∷ []) right_side (target ab_star_monoid i a) (subst (λ (w : List ℕ). IsPlaceOf (Syntactic 2 IsAbStar) ab_star_elements w right_side) e r.place) (right i a h g).place in
             let there = subst (IsRule 2 (Syntactic 2 IsAbStar) ab_star_elements (word_at ab_star_elements i ++ a ∷ [])) t (subst (λ (w : List ℕ). IsRule 2 (Syntactic 2 IsAbStar) ab_star_elements w right_side) e r) in
             let (n, l, f) = stands i a h g there in
             (n, l, cc)

@@ -5,12 +5,12 @@ use Rattle.language_theory.specs.Words.{Over, word_at}
 use Rattle.language_theory.specs.Congruence.{IsRightCongruence, IsCongruence}
 use Rattle.language_theory.specs.Representatives.{IsPlaceOf, AreRepresentatives}
 use Rattle.language_theory.specs.ShortlexGraph.{Graph, target, walk, node, IsGraphOf}
-use Rattle.monoid_theory.specs.Products.{IsRight, IsLeft, IsRightGraph, IsLeftGraph}
+use Rattle.monoid_theory.specs.Products.{IsRightGraph, IsLeftGraph}
 use Rattle.monoid_theory.specs.Green.{IsInRight, IsInLeft, IsInIdeal}
 use Rattle.language_theory.proofs.Shortlex.{over_append, over_last}
 use Rattle.language_theory.proofs.Representatives.{place_of_related}
 use Rattle.language_theory.proofs.Congruences.{right_congruence}
-use Rattle.monoid_theory.proofs.Places.{place_of_listed}
+use Rattle.language_theory.proofs.Representatives.{place_of_listed}
 use Rattle.language_theory.proofs.Graphs.{node_within, walk_append, graph_list}
 
 pub reverse_first : (a : ℕ) (w : List ℕ) → reverse (a ∷ w) ≡ reverse w ++ a ∷ []
@@ -40,7 +40,10 @@ graph_is_right k same g words h = record {
   size = sym h.shortlex.long;
   letters = h.letters;
   long = h.shortlex.graph.long;
-  edge = λ i a m b. subst (IsPlaceOf same words (word_at words i ++ a ∷ [])) (edge i a m) (node_is_place k same g words h (word_at words i ++ a ∷ []) (over_last k (word_at words i) a ((graph_list k same g words h).over i m) b));
+  edge = λ i a m b. record {
+    within = m;
+    place = subst (IsPlaceOf same words (word_at words i ++ a ∷ [])) (edge i a m) (node_is_place k same g words h (word_at words i ++ a ∷ []) (over_last k (word_at words i) a ((graph_list k same g words h).over i m) b));
+  };
 }
   where
     edge : (i a : ℕ) → i < length words → node g (word_at words i ++ a ∷ []) ≡ target g i a
@@ -53,14 +56,14 @@ placed_at same words w j n m p = (λ s. sym (p.only j m s), λ e. subst (λ (i :
 module _ (k : ℕ) (same : List ℕ → List ℕ → Type 0) (words : List (List ℕ)) (c : IsRightCongruence k same) (l : AreRepresentatives k same words) where
   -- a walk in the right graph multiplies by its word on the right
   pub right_walk : (g : Graph) → IsRightGraph k same words g → (x : List ℕ) (i : ℕ) → i < length words → Over k x → IsPlaceOf same words (word_at words i ++ x) (walk g i x)
-  right_walk g h [] i m o = rw (append-nil (word_at words i)) (place_of_listed k same words c.equivalence l i m)
+  right_walk g h [] i m o = rw (append-nil (word_at words i)) (place_of_listed k same words l c.equivalence i m)
   right_walk g h (a ∷ x) i m o = subst (λ (w : List ℕ). IsPlaceOf same words w (walk g t x)) (append_assoc (word_at words i) (a ∷ []) x) (place_of_related k same words l c.equivalence (word_at words t ++ x) ((word_at words i ++ a ∷ []) ++ x) (walk g t x) (over_append k (word_at words t) x ot o.1) (over_append k (word_at words i ++ a ∷ []) x oi o.1) (c.right (word_at words t) (word_at words i ++ a ∷ []) x ot oi o.1 step.related) (right_walk g h x t step.within o.1))
     where
       t : ℕ
       t = target g i a
 
-      step : IsRight same words i a t
-      step = h.edge i a m o.0
+      step : IsPlaceOf same words (word_at words i ++ a ∷ []) t
+      step = (h.edge i a m o.0).place
 
       ot : Over k (word_at words t)
       ot = l.over t step.within
@@ -78,14 +81,14 @@ module _ (k : ℕ) (same : List ℕ → List ℕ → Type 0) (words : List (List
 module _ (k : ℕ) (same : List ℕ → List ℕ → Type 0) (words : List (List ℕ)) (c : IsCongruence k same) (l : AreRepresentatives k same words) where
   -- a walk in the left graph multiplies by its reversed word on the left
   pub left_walk : (g : Graph) → IsLeftGraph k same words g → (x : List ℕ) (i : ℕ) → i < length words → Over k x → IsPlaceOf same words (reverse x ++ word_at words i) (walk g i x)
-  left_walk g h [] i m o = place_of_listed k same words c.equivalence l i m
+  left_walk g h [] i m o = place_of_listed k same words l c.equivalence i m
   left_walk g h (a ∷ x) i m o = subst (λ (w : List ℕ). IsPlaceOf same words w (walk g t x)) grouped (place_of_related k same words l c.equivalence (reverse x ++ word_at words t) (reverse x ++ a ∷ word_at words i) (walk g t x) (over_append k (reverse x) (word_at words t) ox ot) (over_append k (reverse x) (a ∷ word_at words i) ox oi) (c.left (word_at words t) (a ∷ word_at words i) (reverse x) ot oi ox step.related) (left_walk g h x t step.within o.1))
     where
       t : ℕ
       t = target g i a
 
-      step : IsLeft same words a i t
-      step = h.edge i a m o.0
+      step : IsPlaceOf same words (a ∷ word_at words i) t
+      step = (h.edge i a m o.0).place
 
       ot : Over k (word_at words t)
       ot = l.over t step.within

@@ -6,7 +6,6 @@ pub mod FiniteIdeals
 pub mod Rules
 pub mod Rewriting
 pub mod Cayley
-pub mod Links
 pub mod Settling
 pub mod Agreeing
 pub mod FiniteSearch

@@ -7,7 +7,7 @@ use Rattle.language_theory.specs.Representatives.{AreRepresentatives, IsPlaceOf}
 use Rattle.monoid_theory.specs.Powers.{Repeats, IsIndexAndPeriod}
 use Rattle.language_theory.proofs.Numbers.{equal_or_not, least_or_none, pigeonhole}
 use Rattle.language_theory.proofs.Representatives.{word_place, word_place_is, place_of_related, same_place_related}
-use Rattle.monoid_theory.proofs.Places.{place_is_one}
+use Rattle.language_theory.proofs.Representatives.{place_is_one}
 use Rattle.monoid_theory.proofs.Exponents.{over_power, repeats_within, powers_trans, powers_symm, remainder}
 
 -- below n no two numbers have one value

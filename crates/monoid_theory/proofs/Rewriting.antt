@@ -7,7 +7,7 @@ use Rattle.language_theory.specs.Representatives.{IsPlaceOf, AreRepresentatives,
 use Rattle.monoid_theory.specs.Presentation.{IsRule, AreRules, rule_at, IsReplacement, Rewrites, unchanged, replaced}
 use Rattle.language_theory.proofs.Shortlex.{over_front, over_back, shortlex_induction}
 use Rattle.language_theory.proofs.Representatives.{reduced_is_listed, place_of_related, HasAll, Rises, rising_lists_equal}
-use Rattle.monoid_theory.proofs.Places.{place_is_one, place_of_listed}
+use Rattle.language_theory.proofs.Representatives.{place_is_one, place_of_listed}
 use Rattle.monoid_theory.proofs.Ideals.{related_between}
 use Rattle.monoid_theory.proofs.Rules.{reduced_or_not, unreduced_is_replaced, replacement_falls, replacement_over}
 
@@ -66,7 +66,7 @@ module _ (k : ℕ) (same : List ℕ → List ℕ → Type 0) (words : List (List
   listed_at_place w i d p = by (reduced_is_listed k same words l w d)
     where
       by : (j : ℕ) × (j < length words) × (word_at words j ≡ w) → word_at words i ≡ w
-      by (j, h, e) = ap (word_at words) (place_is_one same words w i j p (subst (λ (v : List ℕ). IsPlaceOf same words v j) e (place_of_listed k same words c.equivalence l j h))) ∙ e
+      by (j, h, e) = ap (word_at words) (place_is_one same words w i j p (subst (λ (v : List ℕ). IsPlaceOf same words v j) e (place_of_listed k same words l c.equivalence j h))) ∙ e
 
   -- each word is rewritten to the listed word of its class
   pub rewrites_to_listed : (w : List ℕ) → Over k w → (i : ℕ) → IsPlaceOf same words w i → Rewrites words rules w (word_at words i)

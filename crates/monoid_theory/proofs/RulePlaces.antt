@@ -1,15 +1,13 @@
 -- Rules in terms of places: a left side is a listed word and a letter, and tests of places tell which are rules.
 use Rattle.std.proofs.Common.{◌≡◌, ◌↔◌, ◌⊎◌, inl, inr, ℕ, ◌<◌, List, [], ◌∷◌, ◌++◌, length, sym, ap, subst, ◌∙◌}
-use Rattle.std.proofs.lemmas.List.{append_cancel_left}
 use Rattle.language_theory.specs.Words.{Over, ◌⊏◌, word_at}
 use Rattle.language_theory.specs.Congruence.{IsEquivalence}
 use Rattle.language_theory.specs.Representatives.{IsPlaceOf, AreRepresentatives, IsReduced}
-use Rattle.monoid_theory.specs.Products.{IsRight, IsSuffixLink}
+use Rattle.language_theory.specs.Links.{IsSuffixLink}
+use Rattle.monoid_theory.specs.Products.{IsRight}
 use Rattle.monoid_theory.specs.Presentation.{IsRule}
-use Rattle.language_theory.proofs.Shortlex.{over_back, over_last, last_letter, smaller_with_letters, smaller_last_letter}
-use Rattle.language_theory.proofs.Representatives.{reduced_is_listed, listed_is_reduced, listed_once}
-use Rattle.monoid_theory.proofs.Places.{place_of_listed, place_is_one, first_is_empty}
-use Rattle.monoid_theory.proofs.Rules.{front_is_one, empty_is_reduced}
+use Rattle.language_theory.proofs.Shortlex.{over_back, over_last, last_letter, last_letter_is_one, smaller_with_letters, smaller_last_letter}
+use Rattle.language_theory.proofs.Representatives.{reduced_is_listed, listed_is_reduced, empty_is_reduced, place_is_one, place_of_listed, first_is_empty}
 
 module _ (k : ℕ) (same : List ℕ → List ℕ → Type 0) (words : List (List ℕ)) (l : AreRepresentatives k same words) where
   -- the left side of a rule is a listed word and a letter
@@ -27,16 +25,6 @@ module _ (k : ℕ) (same : List ℕ → List ℕ → Type 0) (words : List (List
   left_sides_rise i j a b h (inl g) = smaller_with_letters (word_at words i) (word_at words j) a b (l.rise i j g h)
   left_sides_rise i j a b h (inr (f, g)) = subst (λ (n : ℕ). (word_at words i ++ a ∷ []) ⊏ (word_at words n ++ b ∷ [])) f (smaller_last_letter (word_at words i) a b g)
 
-  -- so no two of them are one left side
-  pub left_side_is_one : (i j a b : ℕ) → i < length words → j < length words → word_at words i ++ a ∷ [] ≡ word_at words j ++ b ∷ [] → (i ≡ j) × (a ≡ b)
-  left_side_is_one i j a b h g f = (listed_once k same words l i j h g front, last front)
-    where
-      front : word_at words i ≡ word_at words j
-      front = front_is_one (word_at words i) (word_at words j) a b f
-
-      last : word_at words i ≡ word_at words j → a ≡ b
-      last d = let t : a ∷ [] ≡ b ∷ [] = append_cancel_left (word_at words j) (a ∷ []) (b ∷ []) (subst (λ (w : List ℕ). w ++ a ∷ [] ≡ word_at words j ++ b ∷ []) d f) in cc
-
 module _ (k : ℕ) (same : List ℕ → List ℕ → Type 0) (words : List (List ℕ)) (e : IsEquivalence k same) (l : AreRepresentatives k same words) where
   -- a word is reduced where it is the listed word of its place
   pub reduced_at_place : (w : List ℕ) (i : ℕ) → IsPlaceOf same words w i → IsReduced k same w ↔ (word_at words i ≡ w)
@@ -45,12 +33,21 @@ module _ (k : ℕ) (same : List ℕ → List ℕ → Type 0) (words : List (List
       to : IsReduced k same w → word_at words i ≡ w
       to d =
           let (j, h, f) = reduced_is_listed k same words l w d in
-          ap (word_at words) (place_is_one same words w i j p (subst (λ (v : List ℕ). IsPlaceOf same words v j) f (place_of_listed k same words e l j h))) ∙ f
+          ap (word_at words) (place_is_one same words w i j p (subst (λ (v : List ℕ). IsPlaceOf same words v j) f (place_of_listed k same words l e j h))) ∙ f
 
   -- the listed word at i with the letter a is a left side where it is not listed, but is without its first letter
-  pub rule_by_places : (i a r b s q : ℕ) → a < k → i < length words → IsRight same words i a r → IsSuffixLink words i b s → IsRight same words s a q → IsRule k same words (word_at words i ++ a ∷ []) r ↔ (¬ (word_at words r ≡ word_at words i ++ a ∷ []) × (word_at words q ≡ word_at words s ++ a ∷ []))
-  rule_by_places i a r b s q ha hi p link t = (to, from)
+  pub rule_by_places : (i a r b s q : ℕ) → a < k → IsRight same words i a r → IsSuffixLink words i b s → IsRight same words s a q → IsRule k same words (word_at words i ++ a ∷ []) r ↔ (¬ (word_at words r ≡ word_at words i ++ a ∷ []) × (word_at words q ≡ word_at words s ++ a ∷ []))
+  rule_by_places i a r b s q ha f link g = (to, from)
     where
+      hi : i < length words
+      hi = f.within
+
+      p : IsPlaceOf same words (word_at words i ++ a ∷ []) r
+      p = f.place
+
+      t : IsPlaceOf same words (word_at words s ++ a ∷ []) q
+      t = g.place
+
       whole : word_at words i ++ a ∷ [] ≡ b ∷ (word_at words s ++ a ∷ [])
       whole = ap (λ (w : List ℕ). w ++ a ∷ []) link.splits
 
@@ -61,7 +58,7 @@ module _ (k : ℕ) (same : List ℕ → List ℕ → Type 0) (words : List (List
       from (n, g) = record {
         over = over_last k (word_at words i) a (l.over i hi) ha;
         unreduced = λ d. n ((reduced_at_place (word_at words i ++ a ∷ []) r p).0 d);
-        front = λ w x f. subst (IsReduced k same) (sym (front_is_one w (word_at words i) x a f)) (listed_is_reduced k same words l e i hi);
+        front = λ w x f. subst (IsReduced k same) (sym ((last_letter_is_one w (word_at words i) x a f).0)) (listed_is_reduced k same words l e i hi);
         back = back;
         place = p;
       }
@@ -74,13 +71,13 @@ module _ (k : ℕ) (same : List ℕ → List ℕ → Type 0) (words : List (List
   letter_rule a r ha q = (λ f g. f.unreduced ((reduced_at_place (a ∷ []) r p).1 g), from)
     where
       p : IsPlaceOf same words (a ∷ []) r
-      p = subst (λ (w : List ℕ). IsPlaceOf same words (w ++ a ∷ []) r) (first_is_empty k same words e l) q
+      p = subst (λ (w : List ℕ). IsPlaceOf same words (w ++ a ∷ []) r) (first_is_empty k same words l e) q.place
 
       from : ¬ (word_at words r ≡ a ∷ []) → IsRule k same words (a ∷ []) r
       from n = record {
         over = (ha, tt);
         unreduced = λ d. n ((reduced_at_place (a ∷ []) r p).0 d);
-        front = λ w x f. subst (IsReduced k same) (sym (front_is_one w [] x a f)) (empty_is_reduced k same);
+        front = λ w x f. subst (IsReduced k same) (sym ((last_letter_is_one w [] x a f).0)) (empty_is_reduced k same);
         back = λ x w f. let m : [] ≡ w = cc in subst (IsReduced k same) m (empty_is_reduced k same);
         place = p;
       }

@@ -4,22 +4,8 @@ use Rattle.language_theory.specs.Words.{Over, ◌⊏◌, word_at, IsFactor}
 use Rattle.language_theory.specs.Congruence.{IsEquivalence}
 use Rattle.language_theory.specs.Representatives.{IsPlaceOf, AreRepresentatives, IsReduced}
 use Rattle.monoid_theory.specs.Presentation.{IsRule, AreRules, rule_at, IsReplacement}
-use Rattle.language_theory.proofs.Shortlex.{strong_induction, over_append, over_front, over_back, last_letter, same_word_or_not, none_before_nil, shortlex_trichotomy, smaller_with_word, shortlex_before}
-use Rattle.language_theory.proofs.Representatives.{reduced_is_listed, listed_is_reduced}
-
--- a word has one word without its last letter
-pub front_is_one : (u v : List ℕ) (a b : ℕ) → u ++ a ∷ [] ≡ v ++ b ∷ [] → u ≡ v
-front_is_one [] [] a b e = refl
-front_is_one [] (y ∷ v) a b e = absurd (let l = ap length e in let m = length-append v (b ∷ []) in omega arith)
-front_is_one (x ∷ u) [] a b e = absurd (let l = ap length e in let m = length-append u (a ∷ []) in omega arith)
-front_is_one (x ∷ u) (y ∷ v) a b e =
-    let t : u ++ a ∷ [] ≡ v ++ b ∷ [] = cc in
-    let r : u ≡ v = front_is_one u v a b t in
-    cc
-
--- the empty word is reduced
-pub empty_is_reduced : (k : ℕ) (same : List ℕ → List ℕ → Type 0) → IsReduced k same []
-empty_is_reduced k same = record { over = tt; least = λ v o s. none_before_nil v }
+use Rattle.language_theory.proofs.Shortlex.{strong_induction, over_append, over_front, over_back, last_letter, last_letter_is_one, same_word_or_not, shortlex_trichotomy, smaller_with_word, shortlex_before}
+use Rattle.language_theory.proofs.Representatives.{reduced_is_listed, listed_is_reduced, empty_is_reduced}
 
 module _ (k : ℕ) (same : List ℕ → List ℕ → Type 0) (words : List (List ℕ)) (e : IsEquivalence k same) (l : AreRepresentatives k same words) where
   -- the list tells the reduced words
@@ -72,7 +58,7 @@ module _ (k : ℕ) (same : List ℕ → List ℕ → Type 0) (words : List (List
           front (inl g) = (b ∷ v, (l.place (b ∷ v) o).0, record { over = o; unreduced = u; front = without_last; back = without_first; place = (l.place (b ∷ v) o).1 }, ([], [], append-nil (b ∷ v)))
             where
               without_last : (x : List ℕ) (y : ℕ) → x ++ y ∷ [] ≡ b ∷ v → IsReduced k same x
-              without_last x y q = subst (IsReduced k same) (sym (front_is_one x w y a (q ∙ f))) g
+              without_last x y q = subst (IsReduced k same) (sym ((last_letter_is_one x w y a (q ∙ f)).0)) g
 
               without_first : (y : ℕ) (x : List ℕ) → y ∷ x ≡ b ∷ v → IsReduced k same x
               without_first y x q = let r : v ≡ x = cc in subst (IsReduced k same) r d

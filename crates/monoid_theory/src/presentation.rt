@@ -3,7 +3,8 @@ ghost use Rattle.std.specs.Prelude.{◌≡◌, ◌<◌, ◌⊎◌, ◌↔◌, �
 ghost use Rattle.language_theory.specs.Words.{Over, ◌⊏◌, word_at, IsFactor};
 ghost use Rattle.language_theory.specs.Congruence.{IsEquivalence, IsCongruence};
 ghost use Rattle.language_theory.specs.Representatives.{IsPlaceOf, AreRepresentatives, IsReduced};
-ghost use Rattle.monoid_theory.specs.Products.{IsRight, IsSuffixLink};
+ghost use Rattle.language_theory.specs.Links.{IsSuffixLink};
+ghost use Rattle.monoid_theory.specs.Products.{IsRight};
 ghost use Rattle.monoid_theory.specs.Presentation.{IsRule, AreRules, IsReplacement, Rewrites};
 
 use language_theory::language::Relation;

@@ -1,10 +1,10 @@
-//! Laws of products, of the two Cayley graphs and of the links of a list of representatives.
+//! Laws of products and of the two Cayley graphs.
 ghost use Rattle.std.specs.Prelude.{◌≡◌, ◌<◌, ◌↔◌, ◌++◌, ◌∷◌, [], ℕ, List, length, reverse};
 ghost use Rattle.language_theory.specs.Words.{Over, word_at};
 ghost use Rattle.language_theory.specs.Congruence.{IsEquivalence, IsRightCongruence, IsCongruence};
 ghost use Rattle.language_theory.specs.Representatives.{IsPlaceOf, AreRepresentatives};
 ghost use Rattle.language_theory.specs.ShortlexGraph.{Graph, walk, node, IsGraphOf};
-ghost use Rattle.monoid_theory.specs.Products.{IsProduct, IsRight, IsLeft, IsRightGraph, IsLeftGraph, IsPrefixLink, IsSuffixLink};
+ghost use Rattle.monoid_theory.specs.Products.{IsProduct, IsRight, IsLeft, IsRightGraph, IsLeftGraph};
 
 use language_theory::language::Relation;
 
@@ -17,7 +17,7 @@ pub fn products_are_unique<R: Relation>()
 
 /// The product is associative, and the place of the empty word, which is 0, is its identity.
 pub fn products_form_a_monoid<R: Relation>()
-    ensures associative { (k : ℕ) (words : List (List ℕ)) → IsCongruence k R.same → AreRepresentatives k R.same words → (i j m r s t : ℕ) → i < length words → j < length words → m < length words → IsProduct R.same words i j r → IsProduct R.same words r m s → IsProduct R.same words j m t → IsProduct R.same words i t s }
+    ensures associative { (k : ℕ) (words : List (List ℕ)) → IsCongruence k R.same → AreRepresentatives k R.same words → (i j m r s t : ℕ) → IsProduct R.same words i j r → IsProduct R.same words r m s → IsProduct R.same words j m t → IsProduct R.same words i t s }
     ensures empty { (k : ℕ) (words : List (List ℕ)) → IsEquivalence k R.same → AreRepresentatives k R.same words → IsPlaceOf R.same words [] 0 }
     ensures before { (k : ℕ) (words : List (List ℕ)) → IsEquivalence k R.same → AreRepresentatives k R.same words → (j : ℕ) → j < length words → IsProduct R.same words 0 j j }
     ensures behind { (k : ℕ) (words : List (List ℕ)) → IsEquivalence k R.same → AreRepresentatives k R.same words → (i : ℕ) → i < length words → IsProduct R.same words i 0 i }
@@ -38,15 +38,4 @@ pub fn letters_act_on_places<R: Relation>()
 pub fn walks_are_products<R: Relation>()
     ensures right { (k : ℕ) (words : List (List ℕ)) → IsRightCongruence k R.same → AreRepresentatives k R.same words → (d : Graph) → IsRightGraph k R.same words d → (x : List ℕ) (i : ℕ) → i < length words → Over k x → IsPlaceOf R.same words (word_at words i ++ x) (walk d i x) }
     ensures left { (k : ℕ) (words : List (List ℕ)) → IsCongruence k R.same → AreRepresentatives k R.same words → (d : Graph) → IsLeftGraph k R.same words d → (x : List ℕ) (i : ℕ) → i < length words → Over k x → IsPlaceOf R.same words (reverse x ++ word_at words i) (walk d i x) }
-{}
-
-/// In a right congruence each listed word but the first is a listed word and a last letter, and in a congruence it is
-/// also a first letter and a listed word. There is one way of each, and the listed words of both stand before it.
-pub fn links_are_unique<R: Relation>()
-    ensures prefix { (k : ℕ) (words : List (List ℕ)) → IsRightCongruence k R.same → AreRepresentatives k R.same words → (i : ℕ) → 0 < i → i < length words → (p a : ℕ) × (a < k) × IsPrefixLink words i p a }
-    ensures suffix { (k : ℕ) (words : List (List ℕ)) → IsCongruence k R.same → AreRepresentatives k R.same words → (i : ℕ) → 0 < i → i < length words → (a s : ℕ) × (a < k) × IsSuffixLink words i a s }
-    ensures one_prefix { (k : ℕ) (words : List (List ℕ)) → AreRepresentatives k R.same words → (i p a q b : ℕ) → IsPrefixLink words i p a → IsPrefixLink words i q b → (p ≡ q) × (a ≡ b) }
-    ensures one_suffix { (k : ℕ) (words : List (List ℕ)) → AreRepresentatives k R.same words → (i a s b t : ℕ) → IsSuffixLink words i a s → IsSuffixLink words i b t → (a ≡ b) × (s ≡ t) }
-    ensures smaller_prefix { (k : ℕ) (words : List (List ℕ)) → AreRepresentatives k R.same words → (i p a : ℕ) → IsPrefixLink words i p a → p < i }
-    ensures smaller_suffix { (k : ℕ) (words : List (List ℕ)) → AreRepresentatives k R.same words → (i a s : ℕ) → IsSuffixLink words i a s → s < i }
 {}

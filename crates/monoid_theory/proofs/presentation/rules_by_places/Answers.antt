@@ -1,4 +1,3 @@
-use Rattle.monoid_theory.proofs.Links.{suffix_link_within}
 use Rattle.monoid_theory.proofs.RulePlaces.{rule_is_at_place, rule_by_places, letter_rule, left_sides_rise}
 use Rattle.monoid_theory.proofs.presentation.rules_by_places.Goals as goal
 
@@ -6,7 +5,7 @@ pub returns-clause-at : goal.returns-clause-at
 returns-clause-at g c k words = rule_is_at_place k g.R.Relation.same words
 
 pub returns-clause-longer : goal.returns-clause-longer
-returns-clause-longer g c k words q l i a r b s t h p m = rule_by_places k g.R.Relation.same words q l i a r b s t h (suffix_link_within words i b s m) p m
+returns-clause-longer g c k words q l = rule_by_places k g.R.Relation.same words q l
 
 pub returns-clause-letter : goal.returns-clause-letter
 returns-clause-letter g c k words q l = letter_rule k g.R.Relation.same words q l

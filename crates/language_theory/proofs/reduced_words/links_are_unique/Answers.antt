@@ -1,5 +1,5 @@
-use Rattle.monoid_theory.proofs.Links.{prefix_exists, suffix_exists, prefix_is_one, suffix_is_one, prefix_before, suffix_before}
-use Rattle.monoid_theory.proofs.products.links_are_unique.Goals as goal
+use Rattle.language_theory.proofs.Links.{prefix_exists, suffix_exists, prefix_is_one, suffix_is_one, prefix_before, suffix_before}
+use Rattle.language_theory.proofs.reduced_words.links_are_unique.Goals as goal
 
 pub returns-clause-prefix : goal.returns-clause-prefix
 returns-clause-prefix g c k words q l = prefix_exists k g.R.Relation.same words q l
