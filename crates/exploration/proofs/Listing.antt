@@ -5,7 +5,7 @@ use Rattle.std.proofs.lemmas.Nat.{same_from_place}
 use Rattle.std.proofs.lemmas.List.{get_or_append_left, get_or_push}
 use Rattle.language_theory.specs.Words.{Over, ◌⊏◌, word_at}
 use Rattle.language_theory.specs.ShortlexGraph.{Graph, IsShortlex, target, node}
-use Rattle.language_theory.proofs.Shortlex.{last_letter, over_last, over_front, over_back, shortlex_irrefl, shortlex_asymm, smaller_than_longer, smaller_with_letters, smaller_last_letter, smaller_then_not_greater}
+use Rattle.language_theory.proofs.Shortlex.{last_letter, over_last, over_prefix, over_suffix, shortlex_irrefl, shortlex_asymm, smaller_than_longer, smaller_with_letters, smaller_last_letter, smaller_then_not_greater}
 use Rattle.language_theory.proofs.Graphs.{walk_append, node_within, node_word_over, node_word_least, node_word_prefix, root_word, row_place, target_within}
 use Rattle.std.proofs.lemmas.List.{ext_get_or}
 use Rattle.exploration.specs.Listing.{IsListing}
@@ -44,9 +44,9 @@ module _ (g : Graph) (words : List (List ℕ)) (s : IsShortlex g words) where
           let leads : target g (node g u) a ≡ m = sym (walk_append g 0 u (a ∷ [])) ∙ ap (node g) (sym e) ∙ s.leads m hm in
           let longer : word_at words m ≡ word_at words (node g u) ++ a ∷ [] = e ∙ ap (λ (w : List ℕ). w ++ a ∷ []) (sym prefix) in
           let grows : word_at words (node g u) ⊏ word_at words m = subst (λ (w : List ℕ). word_at words (node g u) ⊏ w) (sym longer) (smaller_than_longer (word_at words (node g u)) a) in
-          let within : node g u < g.size = node_within g u s.graph (over_front g.letters u (a ∷ []) o) in
+          let within : node g u < g.size = node_within g u s.graph (over_prefix g.letters u (a ∷ []) o) in
           record {
-            letter = (over_back g.letters u (a ∷ []) o).0;
+            letter = (over_suffix g.letters u (a ∷ []) o).0;
             earlier = earlier_node (node g u) m within hm grows;
             leads = leads;
             longer = longer;

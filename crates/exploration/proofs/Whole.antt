@@ -5,7 +5,7 @@ use Rattle.std.proofs.lemmas.List.{append-nil}
 use Rattle.language_theory.specs.Words.{Over, ◌⊏◌, word_at}
 use Rattle.language_theory.specs.Representatives.{HasMoreClasses}
 use Rattle.language_theory.specs.ShortlexGraph.{Graph, IsGraph, IsShortlex, IsGraphOf, node, target}
-use Rattle.language_theory.proofs.Shortlex.{over_front, over_back, shortlex_irrefl, shortlex_asymm, smaller_than_longer, strong_induction}
+use Rattle.language_theory.proofs.Shortlex.{over_prefix, over_suffix, shortlex_irrefl, shortlex_asymm, smaller_than_longer, strong_induction}
 use Rattle.language_theory.proofs.Graphs.{row_place, walk_append, node_within}
 use Rattle.language_theory.proofs.ShortlexCriterion.{shortlex_by_letters}
 use Rattle.language_theory.proofs.Numbers.{pigeonhole}
@@ -74,8 +74,8 @@ module _ (k : ℕ) (words : List (List ℕ)) (targets : List ℕ) (h : IsBreadth
 
         step : (w : List ℕ) (a : ℕ) → (Over k w → number w ≡ Some (node g w)) → Over k (w ++ a ∷ []) → number (w ++ a ∷ []) ≡ Some (node g (w ++ a ∷ []))
         step w a before o =
-            let ow = over_front k w (a ∷ []) o in
-            let ha : a < k = (over_back k w (a ∷ []) o).0 in
+            let ow = over_prefix k w (a ∷ []) o in
+            let ha : a < k = (over_suffix k w (a ∷ []) o).0 in
             nodes.next (node g w) a w ha (listed (node g w) a (node_within g w search_is_graph ow) ha) ow (before ow) ∙ ap (λ (n : ℕ). Some n) (sym (walk_append g 0 w (a ∷ [])))
 
 -- what a whole search gives: the graph of the relation, whose nodes are the states' numbers

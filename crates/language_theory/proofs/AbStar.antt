@@ -110,10 +110,10 @@ nodes u v ou ov = both_directions
     (alike_nodes 2 IsAbStar ab_star.graph ab_star.words ab_star.finals shortlex refl final u v ou ov)
 
 pub ab_star_minimal : IsMinimal 2 IsAbStar ab_star
-ab_star_minimal = record { classes = record { letters = refl; shortlex = shortlex; nodes = nodes }; long = refl; final = final }
+ab_star_minimal = record { classes = record { letters = refl; shortlex = shortlex; nodes = record { both = nodes } }; long = refl; final = final }
 
 pub aba_is_a : Syntactic 2 IsAbStar (0 ∷ 1 ∷ 0 ∷ []) (0 ∷ [])
-aba_is_a = (syntactic_by_walks 2 IsAbStar ab_star ab_star_minimal (0 ∷ 1 ∷ 0 ∷ []) (0 ∷ []) (omega arith, (omega arith, (omega arith, tt))) (omega arith, tt)).1 alike
+aba_is_a = ((syntactic_by_walks 2 IsAbStar ab_star ab_star_minimal).both (0 ∷ 1 ∷ 0 ∷ []) (0 ∷ []) (omega arith, (omega arith, (omega arith, tt))) (omega arith, tt)).1 alike
   where
     alike : (i : ℕ) → i < 3 → walk ab_star.graph i (0 ∷ 1 ∷ 0 ∷ []) ≡ walk ab_star.graph i (0 ∷ [])
     alike zero h = refl
@@ -125,4 +125,4 @@ pub bb_behind_b : Nerode 2 IsAbStar (1 ∷ 1 ∷ []) (1 ∷ [])
 bb_behind_b = (nodes (1 ∷ 1 ∷ []) (1 ∷ []) (omega arith, (omega arith, tt)) (omega arith, tt)).0 refl
 
 pub bb_apart_b : ¬ Syntactic 2 IsAbStar (1 ∷ 1 ∷ []) (1 ∷ [])
-bb_apart_b s = let e : walk ab_star.graph 1 (1 ∷ 1 ∷ []) ≡ walk ab_star.graph 1 (1 ∷ []) = (syntactic_by_walks 2 IsAbStar ab_star ab_star_minimal (1 ∷ 1 ∷ []) (1 ∷ []) (omega arith, (omega arith, tt)) (omega arith, tt)).0 s 1 (omega arith) in omega (arith, e)
+bb_apart_b s = let e : walk ab_star.graph 1 (1 ∷ 1 ∷ []) ≡ walk ab_star.graph 1 (1 ∷ []) = ((syntactic_by_walks 2 IsAbStar ab_star ab_star_minimal).both (1 ∷ 1 ∷ []) (1 ∷ []) (omega arith, (omega arith, tt)) (omega arith, tt)).0 s 1 (omega arith) in omega (arith, e)

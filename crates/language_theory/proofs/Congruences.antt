@@ -1,7 +1,8 @@
 -- Nerode's equivalence is a right congruence, the syntactic one a congruence, and the coarsest one that respects the language.
 use Rattle.std.proofs.Common.{◌≡◌, ℕ, ◌<◌, ◌↔◌, List, [], ◌∷◌, ◌++◌, refl, ap, sym, subst, ◌∙◌, append_assoc, append-nil}
 use Rattle.language_theory.specs.Words.{Over}
-use Rattle.language_theory.specs.Congruence.{Syntactic, IsEquivalence, IsRightCongruence, IsCongruence, moved, MapsAlike}
+use Rattle.language_theory.specs.Congruence.{Syntactic, IsEquivalence, IsRightCongruence, IsCongruence, Agree, moved, MapsAlike}
+use Rattle.language_theory.specs.Languages.{HaveSameWords}
 use Rattle.language_theory.specs.Nerode.{Nerode}
 use Rattle.language_theory.proofs.Shortlex.{over_append}
 
@@ -17,6 +18,16 @@ right_congruence k same c = record { equivalence = c.equivalence; right = c.righ
 
 pub equal_words_alike : (L : List ℕ → Type 0) (u v : List ℕ) → u ≡ v → L u ↔ L v
 equal_words_alike L u v e = (λ h. subst L e h, λ h. subst L (sym e) h)
+
+-- to agree is an equivalence
+pub agree_itself : (k : ℕ) (same : List ℕ → List ℕ → Type 0) → Agree k same same
+agree_itself k same = record { both = λ u v ou ov. (λ h. h, λ h. h) }
+
+pub agree_turned : (k : ℕ) (same other : List ℕ → List ℕ → Type 0) → Agree k same other → Agree k other same
+agree_turned k same other a = record { both = λ u v ou ov. other_direction (a.both u v ou ov) }
+
+pub agree_joined : (k : ℕ) (same other third : List ℕ → List ℕ → Type 0) → Agree k same other → Agree k other third → Agree k same third
+agree_joined k same other third a b = record { both = λ u v ou ov. both_directions (a.both u v ou ov) (b.both u v ou ov) }
 
 module _ (k : ℕ) (L : List ℕ → Type 0) where
   pub nerode_equivalence : IsEquivalence k (Nerode k L)
@@ -90,32 +101,36 @@ module _ (k : ℕ) (L : List ℕ → Type 0) where
       from h p q op oq = rw (append_assoc p u q, append_assoc p v q) at (h p op q oq)
 
 -- languages with the same words over k letters have the same equivalences
-module _ (k : ℕ) (L M : List ℕ → Type 0) (a : (w : List ℕ) → Over k w → L w ↔ M w) where
-  pub nerode_agrees : (u v : List ℕ) → Over k u → Over k v → Nerode k L u v ↔ Nerode k M u v
-  nerode_agrees u v ou ov = (
-    λ h q o. both_directions (other_direction (a (u ++ q) (over_append k u q ou o))) (both_directions (h q o) (a (v ++ q) (over_append k v q ov o))),
-    λ h q o. both_directions (a (u ++ q) (over_append k u q ou o)) (both_directions (h q o) (other_direction (a (v ++ q) (over_append k v q ov o)))),
-  )
+module _ (k : ℕ) (L M : List ℕ → Type 0) (a : HaveSameWords k L M) where
+  pub nerode_agrees : Agree k (Nerode k L) (Nerode k M)
+  nerode_agrees = record { both = λ u v ou ov. (
+    λ h q o. both_directions (other_direction (a.both (u ++ q) (over_append k u q ou o))) (both_directions (h q o) (a.both (v ++ q) (over_append k v q ov o))),
+    λ h q o. both_directions (a.both (u ++ q) (over_append k u q ou o)) (both_directions (h q o) (other_direction (a.both (v ++ q) (over_append k v q ov o)))),
+  ) }
 
-  pub syntactic_agrees : (u v : List ℕ) → Over k u → Over k v → Syntactic k L u v ↔ Syntactic k M u v
-  syntactic_agrees u v ou ov = (
+  pub syntactic_agrees : Agree k (Syntactic k L) (Syntactic k M)
+  syntactic_agrees = record { both = λ u v ou ov. (
     λ h p q op oq. both_directions (other_direction (at p u q op ou oq)) (both_directions (h p q op oq) (at p v q op ov oq)),
     λ h p q op oq. both_directions (at p u q op ou oq) (both_directions (h p q op oq) (other_direction (at p v q op ov oq))),
-  )
+  ) }
     where
       at : (p w q : List ℕ) → Over k p → Over k w → Over k q → L (p ++ (w ++ q)) ↔ M (p ++ (w ++ q))
-      at p w q op ow oq = a (p ++ (w ++ q)) (over_append k p (w ++ q) op (over_append k w q ow oq))
+      at p w q op ow oq = a.both (p ++ (w ++ q)) (over_append k p (w ++ q) op (over_append k w q ow oq))
 
 -- ---- maps of points
 
-pub moved_append : (image : ℕ → ℕ → ℕ) (p : ℕ) (u v : List ℕ) → moved image p (u ++ v) ≡ moved image (moved image p u) v
+pub moved_append : {X : Type 0} (image : X → ℕ → X) (p : X) (u v : List ℕ) → moved image p (u ++ v) ≡ moved image (moved image p u) v
 moved_append image p [] v = refl
 moved_append image p (a ∷ u) v = moved_append image (image p a) u v
 
+-- what each letter keeps, each word keeps
+pub moved_keeps : {X : Type 0} (k : ℕ) (image : X → ℕ → X) (P : X → Type 0) → ((p : X) (a : ℕ) → P p → a < k → P (image p a)) → (p : X) (w : List ℕ) → P p → Over k w → P (moved image p w)
+moved_keeps k image P keeps p [] h o = h
+moved_keeps k image P keeps p (a ∷ w) h o = moved_keeps k image P keeps (image p a) w (keeps p a h o.0) o.1
+
 module _ (k n : ℕ) (image : ℕ → ℕ → ℕ) (within : (p a : ℕ) → p < n → a < k → image p a < n) where
   pub moved_within : (p : ℕ) (w : List ℕ) → p < n → Over k w → moved image p w < n
-  moved_within p [] h o = h
-  moved_within p (a ∷ w) h o = moved_within (image p a) w (within p a h o.0) o.1
+  moved_within = moved_keeps k image (λ p. p < n) within
 
   pub maps_alike_congruence : IsCongruence k (MapsAlike n image)
   maps_alike_congruence = record {

@@ -5,20 +5,14 @@ use Rattle.std.proofs.lemmas.Nat.{div-add-mod'}
 use Rattle.std.proofs.lemmas.Bool.{cases_lt}
 use Rattle.language_theory.specs.Words.{Over, word_at, ◌⊏◌}
 use Rattle.language_theory.specs.Representatives.{AreRepresentatives, IsReduced}
-use Rattle.language_theory.specs.Congruence.{IsEquivalence, IsRightCongruence, moved}
+use Rattle.language_theory.specs.Congruence.{IsEquivalence, IsRightCongruence, Agree}
 use Rattle.language_theory.specs.ShortlexGraph.{Graph, target, walk, node, SameNode, IsGraph, IsShortlex, IsGraphOf}
 use Rattle.language_theory.proofs.Shortlex.{none_before_nil, over_last}
 use Rattle.language_theory.proofs.Representatives.{reduced_is_listed, listed_is_reduced, reduced_prefix, one_list, agreeing_list, agreeing_equivalence}
-use Rattle.language_theory.proofs.Congruences.{both_directions}
+use Rattle.language_theory.proofs.Congruences.{agree_joined, moved_append, moved_within}
 
 pub walk_append : (g : Graph) (i : ℕ) (u v : List ℕ) → walk g i (u ++ v) ≡ walk g (walk g i u) v
-walk_append g i [] v = refl
-walk_append g i (a ∷ u) v = walk_append g (target g i a) u v
-
--- a walk is the motion of a point by the targets
-pub walk_moves : (g : Graph) (i : ℕ) (w : List ℕ) → walk g i w ≡ moved (target g) i w
-walk_moves g i [] = refl
-walk_moves g i (a ∷ w) = walk_moves g (target g i a) w
+walk_append g = moved_append (target g)
 
 -- the place of a letter in the row of a node
 pub row_place : (i a n k : ℕ) → i < n → a < k → i * k + a < n * k
@@ -39,8 +33,7 @@ pub target_within : (g : Graph) (i a : ℕ) → IsGraph g → i < g.size → a <
 target_within g i a h l m = let e = h.long in let p : i * g.letters + a < length g.targets = omega (arith, row_place i a g.size g.letters l m) in h.within (i * g.letters + a) 0 p
 
 pub walk_within : (g : Graph) (i : ℕ) (w : List ℕ) → IsGraph g → i < g.size → Over g.letters w → walk g i w < g.size
-walk_within g i [] h l o = l
-walk_within g i (a ∷ w) h l o = walk_within g (target g i a) w h (target_within g i a h l o.0) o.1
+walk_within g i w h = moved_within g.letters g.size (target g) (λ j a. target_within g j a h) i w
 
 pub node_within : (g : Graph) (w : List ℕ) → IsGraph g → Over g.letters w → node g w < g.size
 node_within g w h o = walk_within g 0 w h h.root o
@@ -93,8 +86,8 @@ graph_equivalence k same g words h = agreeing_equivalence k (SameNode g) same h.
 pub graph_list : (k : ℕ) (same : List ℕ → List ℕ → Type 0) (g : Graph) (words : List (List ℕ)) → IsGraphOf k same g words → AreRepresentatives k same words
 graph_list k same g words h = agreeing_list k (SameNode g) same h.nodes words (subst (λ n. AreRepresentatives n (SameNode g) words) h.letters h.shortlex.least)
 
-pub agreeing_graph : (k : ℕ) (same alike : List ℕ → List ℕ → Type 0) (g : Graph) (words : List (List ℕ)) → ((u v : List ℕ) → Over k u → Over k v → same u v ↔ alike u v) → IsGraphOf k same g words → IsGraphOf k alike g words
-agreeing_graph k same alike g words a h = record { letters = h.letters; shortlex = h.shortlex; nodes = λ u v ou ov. both_directions (h.nodes u v ou ov) (a u v ou ov) }
+pub agreeing_graph : (k : ℕ) (same alike : List ℕ → List ℕ → Type 0) (g : Graph) (words : List (List ℕ)) → Agree k same alike → IsGraphOf k same g words → IsGraphOf k alike g words
+agreeing_graph k same alike g words a h = record { letters = h.letters; shortlex = h.shortlex; nodes = agree_joined k (SameNode g) same alike h.nodes a }
 
 module _ (k : ℕ) (same : List ℕ → List ℕ → Type 0) (g h : Graph) (words : List (List ℕ)) (a : IsGraphOf k same g words) (b : IsGraphOf k same h words) where
   sizes_equal : g.size ≡ h.size
@@ -115,7 +108,7 @@ module _ (k : ℕ) (same : List ℕ → List ℕ → Type 0) (g h : Graph) (word
       let in_g : t < g.size = target_within g i c a.shortlex.graph l (omega arith) in
       let ot : Over k (word_at words t) = subst (λ n. Over n (word_at words t)) ka (node_word_over g words a.shortlex t in_g) in
       let one : SameNode g (word_at words t) x = a.shortlex.leads t in_g ∙ sym from in
-      let other : SameNode h (word_at words t) x = (b.nodes (word_at words t) x ot ox).1 ((a.nodes (word_at words t) x ot ox).0 one) in
+      let other : SameNode h (word_at words t) x = (b.nodes.both (word_at words t) x ot ox).1 ((a.nodes.both (word_at words t) x ot ox).0 one) in
       sym (b.shortlex.leads t (omega arith)) ∙ (other ∙ to)
 
   targets_equal : g.targets ≡ h.targets
@@ -145,5 +138,5 @@ one_graph k same g h xs ys a b =
     let e : xs ≡ ys = one_list k same xs ys (graph_equivalence k same g xs a) (graph_list k same g xs a) (graph_list k same h ys b) in
     (graphs_equal k same g h ys (subst (IsGraphOf k same g) e a) b, e)
 
-pub one_graph_of_agreeing : (k : ℕ) (same alike : List ℕ → List ℕ → Type 0) (g h : Graph) (xs ys : List (List ℕ)) → ((u v : List ℕ) → Over k u → Over k v → same u v ↔ alike u v) → IsGraphOf k same g xs → IsGraphOf k alike h ys → (g ≡ h) × (xs ≡ ys)
+pub one_graph_of_agreeing : (k : ℕ) (same alike : List ℕ → List ℕ → Type 0) (g h : Graph) (xs ys : List (List ℕ)) → Agree k same alike → IsGraphOf k same g xs → IsGraphOf k alike h ys → (g ≡ h) × (xs ≡ ys)
 one_graph_of_agreeing k same alike g h xs ys e a b = one_graph k alike g h xs ys (agreeing_graph k same alike g xs e a) b

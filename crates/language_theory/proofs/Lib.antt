@@ -1,6 +1,7 @@
 pub mod Shortlex
 pub mod Numbers
 pub mod LeastWords
+pub mod Deleting
 pub mod Representatives
 pub mod Congruences
 pub mod Links

@@ -4,7 +4,7 @@ use Rattle.language_theory.specs.Words.{◌⊏◌, word_at}
 use Rattle.language_theory.specs.Links.{IsPrefixLink, IsSuffixLink}
 use Rattle.language_theory.specs.Congruence.{IsEquivalence, IsRightCongruence, IsCongruence}
 use Rattle.language_theory.specs.Representatives.{AreRepresentatives, IsReduced}
-use Rattle.language_theory.proofs.Shortlex.{over_back, last_letter, last_letter_is_one, smaller_than_longer, shorter_first}
+use Rattle.language_theory.proofs.Shortlex.{over_suffix, last_letter, last_letter_is_one, smaller_than_longer, shorter_first}
 use Rattle.language_theory.proofs.Representatives.{reduced_is_listed, listed_is_reduced, reduced_prefix, reduced_suffix, listed_once, listed_order, first_is_empty}
 
 module _ (k : ℕ) (same : List ℕ → List ℕ → Type 0) (words : List (List ℕ)) (e : IsEquivalence k same) (l : AreRepresentatives k same words) where
@@ -21,7 +21,7 @@ module _ (k : ℕ) (same : List ℕ → List ℕ → Type 0) (words : List (List
       by (inr (u, a, e)) =
           let r = subst (IsReduced k same) e (listed_is_reduced k same words l c.equivalence i m) in
           let (p, h, f) = reduced_is_listed k same words l u (reduced_prefix k same u (a ∷ []) c r) in
-          (p, a, (over_back k u (a ∷ []) r.over).0, record { whole = m; prefix = h; splits = e ∙ ap (λ (w : List ℕ). w ++ a ∷ []) (sym f) })
+          (p, a, (over_suffix k u (a ∷ []) r.over).0, record { whole = m; prefix = h; splits = e ∙ ap (λ (w : List ℕ). w ++ a ∷ []) (sym f) })
 
 module _ (k : ℕ) (same : List ℕ → List ℕ → Type 0) (words : List (List ℕ)) (c : IsCongruence k same) (l : AreRepresentatives k same words) where
   -- and a first letter and a listed word

@@ -4,12 +4,13 @@ use Rattle.std.specs.Cmp.{both_ways}
 use Rattle.std.proofs.lemmas.List.{ext_get_or}
 use Rattle.language_theory.specs.Words.{Over, word_at}
 use Rattle.language_theory.specs.Automaton.{is_marked}
-use Rattle.language_theory.specs.Congruence.{Syntactic, MapsAlike}
+use Rattle.language_theory.specs.Congruence.{Syntactic, Agree, MapsAlike}
+use Rattle.language_theory.specs.Languages.{HaveSameWords}
 use Rattle.language_theory.specs.Nerode.{Nerode, MinimalAutomaton, IsMinimal}
 use Rattle.language_theory.specs.ShortlexGraph.{Graph, target, walk, node, SameNode, IsShortlex, IsQuotient, AreFirstWords, Alike, IsCoarsest}
 use Rattle.language_theory.proofs.Shortlex.{over_append}
 use Rattle.language_theory.proofs.Congruences.{both_directions, syntactic_by_nerode, nerode_agrees}
-use Rattle.language_theory.proofs.Graphs.{walk_append, walk_moves, node_within, node_word_over, one_graph, agreeing_graph}
+use Rattle.language_theory.proofs.Graphs.{walk_append, node_within, node_word_over, one_graph, agreeing_graph}
 use Rattle.language_theory.proofs.Quotients.{quotient_node, quotient_shortlex}
 
 -- marks of two nodes are equal where both or neither of two facts hold
@@ -38,7 +39,7 @@ module _ (k : ℕ) (L : List ℕ → Type 0) (g : Graph) (words : List (List ℕ
   -- the classes of nodes that no word tells apart are the nodes of the minimal automaton
   pub quotient_minimal : (count : ℕ) (classes : List ℕ) (q : Graph) (first : List (List ℕ)) (finals : List Bool) → IsCoarsest g marks count classes → IsQuotient g count classes q → AreFirstWords count classes words first → length finals ≡ count → ((i : ℕ) → i < g.size → is_marked finals (slice_index classes i) ≡ is_marked marks i) → IsMinimal k L (record { graph = q; finals = finals; words = first })
   quotient_minimal count classes q first finals c h f long same = record {
-    classes = record { letters = h.letters ∙ letters; shortlex = quotient_shortlex g words count classes q first s c.partition h f; nodes = nodes };
+    classes = record { letters = h.letters ∙ letters; shortlex = quotient_shortlex g words count classes q first s c.partition h f; nodes = record { both = nodes } };
     long = long ∙ sym h.size;
     final = λ w o. subst (λ b. IsTrue b ↔ L w) (sym (ap (is_marked finals) (at w o) ∙ same (node g w) (inside w o))) (m w o);
   }
@@ -62,30 +63,26 @@ module _ (k : ℕ) (L : List ℕ → Type 0) (d : MinimalAutomaton) (h : IsMinim
   minimal_word_over i l = subst (λ n. Over n (word_at d.words i)) h.classes.letters (node_word_over d.graph d.words h.classes.shortlex i l)
 
   -- words are syntactically congruent exactly where they lead from each node to one node
-  pub syntactic_by_walks : (u v : List ℕ) → Over k u → Over k v → Syntactic k L u v ↔ ((i : ℕ) → i < d.graph.size → walk d.graph i u ≡ walk d.graph i v)
-  syntactic_by_walks u v ou ov = both_directions (syntactic_by_nerode k L u v) (to, from)
+  pub syntactic_by_walks : Agree k (Syntactic k L) (MapsAlike d.graph.size (target d.graph))
+  syntactic_by_walks = record { both = λ u v ou ov. both_directions (syntactic_by_nerode k L u v) (to u v ou ov, from u v ou ov) }
     where
-      to : ((p : List ℕ) → Over k p → Nerode k L (p ++ u) (p ++ v)) → (i : ℕ) → i < d.graph.size → walk d.graph i u ≡ walk d.graph i v
-      to f i l =
+      to : (u v : List ℕ) → Over k u → Over k v → ((p : List ℕ) → Over k p → Nerode k L (p ++ u) (p ++ v)) → MapsAlike d.graph.size (target d.graph) u v
+      to u v ou ov f i l =
           let p = word_at d.words i in
           let op = minimal_word_over i l in
           let e : node d.graph p ≡ i = h.classes.shortlex.leads i l in
-          let s : node d.graph (p ++ u) ≡ node d.graph (p ++ v) = (h.classes.nodes (p ++ u) (p ++ v) (over_append k p u op ou) (over_append k p v op ov)).1 (f p op) in
+          let s : node d.graph (p ++ u) ≡ node d.graph (p ++ v) = (h.classes.nodes.both (p ++ u) (p ++ v) (over_append k p u op ou) (over_append k p v op ov)).1 (f p op) in
           ap (λ j. walk d.graph j u) (sym e) ∙ (sym (walk_append d.graph 0 p u) ∙ (s ∙ (walk_append d.graph 0 p v ∙ ap (λ j. walk d.graph j v) e)))
 
-      from : ((i : ℕ) → i < d.graph.size → walk d.graph i u ≡ walk d.graph i v) → (p : List ℕ) → Over k p → Nerode k L (p ++ u) (p ++ v)
-      from f p op = (h.classes.nodes (p ++ u) (p ++ v) (over_append k p u op ou) (over_append k p v op ov)).0 (walk_append d.graph 0 p u ∙ (f (node d.graph p) (node_within d.graph p h.classes.shortlex.graph (subst (λ n. Over n p) (sym h.classes.letters) op)) ∙ sym (walk_append d.graph 0 p v)))
-
-  -- the syntactic congruence is that of the maps of the nodes
-  pub syntactic_by_maps : (u v : List ℕ) → Over k u → Over k v → Syntactic k L u v ↔ MapsAlike d.graph.size (target d.graph) u v
-  syntactic_by_maps u v ou ov = both_directions (syntactic_by_walks u v ou ov) (λ f i l. sym (walk_moves d.graph i u) ∙ (f i l ∙ walk_moves d.graph i v), λ f i l. walk_moves d.graph i u ∙ (f i l ∙ sym (walk_moves d.graph i v)))
+      from : (u v : List ℕ) → Over k u → Over k v → MapsAlike d.graph.size (target d.graph) u v → (p : List ℕ) → Over k p → Nerode k L (p ++ u) (p ++ v)
+      from u v ou ov f p op = (h.classes.nodes.both (p ++ u) (p ++ v) (over_append k p u op ou) (over_append k p v op ov)).0 (walk_append d.graph 0 p u ∙ (f (node d.graph p) (node_within d.graph p h.classes.shortlex.graph (subst (λ n. Over n p) (sym h.classes.letters) op)) ∙ sym (walk_append d.graph 0 p v)))
 
 -- languages with the same words have the same minimal automata
-pub agreeing_minimal : (k : ℕ) (L M : List ℕ → Type 0) (d : MinimalAutomaton) → ((w : List ℕ) → Over k w → L w ↔ M w) → IsMinimal k L d → IsMinimal k M d
+pub agreeing_minimal : (k : ℕ) (L M : List ℕ → Type 0) (d : MinimalAutomaton) → HaveSameWords k L M → IsMinimal k L d → IsMinimal k M d
 agreeing_minimal k L M d a h = record {
   classes = agreeing_graph k (Nerode k L) (Nerode k M) d.graph d.words (nerode_agrees k L M a) h.classes;
   long = h.long;
-  final = λ w o. both_directions (h.final w o) (a w o);
+  final = λ w o. both_directions (h.final w o) (a.both w o);
 }
 
 -- a language has one minimal automaton

@@ -3,8 +3,8 @@ use Rattle.std.proofs.Common.{◌≡◌, ◌≢◌, ℕ, zero, suc, ◌<◌, ◌
 use Rattle.std.proofs.lemmas.Bool.{cases_lt}
 use Rattle.language_theory.specs.Words.{Over, word_at, IsFactor, ◌⊏◌}
 use Rattle.language_theory.specs.Representatives.{IsPlaceOf, AreRepresentatives, IsReduced, AreApart, HasMoreClasses}
-use Rattle.language_theory.specs.Congruence.{IsEquivalence, IsRightCongruence, IsCongruence}
-use Rattle.language_theory.proofs.Shortlex.{shortlex_irrefl, shortlex_asymm, shortlex_trichotomy, none_before_nil, neither_smaller, smaller_with_word, shortlex_before, over_or_not, over_append, over_front, over_back}
+use Rattle.language_theory.specs.Congruence.{IsEquivalence, IsRightCongruence, IsCongruence, Agree}
+use Rattle.language_theory.proofs.Shortlex.{shortlex_irrefl, shortlex_asymm, shortlex_trichotomy, none_before_nil, neither_smaller, smaller_with_word, shortlex_before, over_or_not, over_append, over_prefix, over_suffix}
 use Rattle.language_theory.proofs.Congruences.{right_congruence}
 use Rattle.language_theory.proofs.Numbers.{pigeonhole, equal_or_not}
 
@@ -174,12 +174,12 @@ pub one_list : (k : ℕ) (same : List ℕ → List ℕ → Type 0) (xs ys : List
 one_list k same xs ys q r s = rising_lists_equal xs ys r.rise s.rise (λ i h. reduced_is_listed k same ys s (word_at xs i) (listed_is_reduced k same xs r q i h)) (λ i h. reduced_is_listed k same xs r (word_at ys i) (listed_is_reduced k same ys s q i h))
 
 -- relations that agree on words over k letters
-module _ (k : ℕ) (same alike : List ℕ → List ℕ → Type 0) (a : (u v : List ℕ) → Over k u → Over k v → same u v ↔ alike u v) where
+module _ (k : ℕ) (same alike : List ℕ → List ℕ → Type 0) (a : Agree k same alike) where
   pub agreeing_equivalence : IsEquivalence k same → IsEquivalence k alike
   agreeing_equivalence q = record {
-    refl = λ u o. (a u u o o).0 (q.refl u o);
-    symm = λ u v ou ov h. (a v u ov ou).0 (q.symm u v ou ov ((a u v ou ov).1 h));
-    trans = λ u v w ou ov ow h g. (a u w ou ow).0 (q.trans u v w ou ov ow ((a u v ou ov).1 h) ((a v w ov ow).1 g));
+    refl = λ u o. (a.both u u o o).0 (q.refl u o);
+    symm = λ u v ou ov h. (a.both v u ov ou).0 (q.symm u v ou ov ((a.both u v ou ov).1 h));
+    trans = λ u v w ou ov ow h g. (a.both u w ou ow).0 (q.trans u v w ou ov ow ((a.both u v ou ov).1 h) ((a.both v w ov ow).1 g));
   }
 
   pub agreeing_list : (words : List (List ℕ)) → AreRepresentatives k same words → AreRepresentatives k alike words
@@ -190,11 +190,11 @@ module _ (k : ℕ) (same alike : List ℕ → List ℕ → Type 0) (a : (u v : L
       i,
       record {
         within = p.within;
-        related = (a (word_at words i) w (r.over i p.within) o).0 p.related;
-        only = λ j h s. p.only j h ((a (word_at words j) w (r.over j h) o).1 s);
+        related = (a.both (word_at words i) w (r.over i p.within) o).0 p.related;
+        only = λ j h s. p.only j h ((a.both (word_at words j) w (r.over j h) o).1 s);
       },
     );
-    least = λ i w h o s. r.least i w h o ((a (word_at words i) w (r.over i h) o).1 s);
+    least = λ i w h o s. r.least i w h o ((a.both (word_at words i) w (r.over i h) o).1 s);
   }
 
   pub agreeing_lists_equal : (xs ys : List (List ℕ)) → IsEquivalence k alike → AreRepresentatives k same xs → AreRepresentatives k alike ys → xs ≡ ys
@@ -203,15 +203,15 @@ module _ (k : ℕ) (same alike : List ℕ → List ℕ → Type 0) (a : (u v : L
 -- a prefix of a reduced word of a right congruence is reduced
 pub reduced_prefix : (k : ℕ) (same : List ℕ → List ℕ → Type 0) (u v : List ℕ) → IsRightCongruence k same → IsReduced k same (u ++ v) → IsReduced k same u
 reduced_prefix k same u v c r =
-    let ou = over_front k u v r.over in
-    let ov = over_back k u v r.over in
+    let ou = over_prefix k u v r.over in
+    let ov = over_suffix k u v r.over in
     record { over = ou; least = λ w o s h. r.least (w ++ v) (over_append k w v o ov) (c.right w u v o ou ov s) (smaller_with_word w u v h) }
 
 -- a suffix of a reduced word of a congruence is reduced
 pub reduced_suffix : (k : ℕ) (same : List ℕ → List ℕ → Type 0) (u v : List ℕ) → IsCongruence k same → IsReduced k same (u ++ v) → IsReduced k same v
 reduced_suffix k same u v c r =
-    let ou = over_front k u v r.over in
-    let ov = over_back k u v r.over in
+    let ou = over_prefix k u v r.over in
+    let ov = over_suffix k u v r.over in
     record { over = ov; least = λ w o s h. r.least (u ++ w) (over_append k u w ou o) (c.left w v u o ov ou s) (shortlex_before u w v ∙ h) }
 
 -- a factor of a reduced word of a congruence is reduced

@@ -219,16 +219,16 @@ pub over_append : (k : ℕ) (u v : List ℕ) → Over k u → Over k v → Over 
 over_append k [] v o p = p
 over_append k (a ∷ u) v o p = (o.0, over_append k u v o.1 p)
 
-pub over_front : (k : ℕ) (u v : List ℕ) → Over k (u ++ v) → Over k u
-over_front k [] v o = tt
-over_front k (a ∷ u) v o = (o.0, over_front k u v o.1)
+pub over_prefix : (k : ℕ) (u v : List ℕ) → Over k (u ++ v) → Over k u
+over_prefix k [] v o = tt
+over_prefix k (a ∷ u) v o = (o.0, over_prefix k u v o.1)
 
-pub over_back : (k : ℕ) (u v : List ℕ) → Over k (u ++ v) → Over k v
-over_back k [] v o = o
-over_back k (a ∷ u) v o = over_back k u v o.1
+pub over_suffix : (k : ℕ) (u v : List ℕ) → Over k (u ++ v) → Over k v
+over_suffix k [] v o = o
+over_suffix k (a ∷ u) v o = over_suffix k u v o.1
 
 pub over_split : (k : ℕ) (u v : List ℕ) → Over k (u ++ v) → Over k u × Over k v
-over_split k u v o = (over_front k u v o, over_back k u v o)
+over_split k u v o = (over_prefix k u v o, over_suffix k u v o)
 
 pub over_last : (k : ℕ) (u : List ℕ) (a : ℕ) → Over k u → a < k → Over k (u ++ a ∷ [])
 over_last k u a o h = over_append k u (a ∷ []) o (h, tt)

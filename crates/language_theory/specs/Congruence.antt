@@ -23,8 +23,12 @@ pub record IsCongruence (k : ℕ) (same : List ℕ → List ℕ → Type 0) : Ty
   pub right : (u v w : List ℕ) → Over k u → Over k v → Over k w → same u v → same (u ++ w) (v ++ w)
   pub left : (u v w : List ℕ) → Over k u → Over k v → Over k w → same u v → same (w ++ u) (w ++ v)
 
+-- two relations of words over k letters agree
+pub record Agree (k : ℕ) (same other : List ℕ → List ℕ → Type 0) : Type 0 where
+  pub both : (u v : List ℕ) → Over k u → Over k v → same u v ↔ other u v
+
 -- where a word takes a point, one letter after the other; `image p a` is where the letter a takes the point p
-abbrev pub moved : (ℕ → ℕ → ℕ) → ℕ → List ℕ → ℕ
+abbrev pub moved : {X : Type 0} → (X → ℕ → X) → X → List ℕ → X
 moved image p [] = p
 moved image p (a ∷ w) = moved image (image p a) w
 

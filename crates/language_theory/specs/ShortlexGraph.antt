@@ -3,6 +3,7 @@ use Rattle.std.specs.Prelude.{◌≡◌, ◌<◌, ◌+◌, ◌*◌, ◌↔◌, �
 use Rattle.language_theory.specs.Words.{Over, word_at}
 use Rattle.language_theory.specs.Automaton.{is_marked}
 use Rattle.language_theory.specs.Representatives.{AreRepresentatives}
+use Rattle.language_theory.specs.Congruence.{Agree, moved}
 
 -- the targets of node 0 for each letter, then those of node 1, and so on
 pub record Graph : Type 0 where
@@ -16,8 +17,7 @@ target g i a = slice_index g.targets (i * g.letters + a)
 
 -- the node to which a word leads from node i
 abbrev pub walk : Graph → ℕ → List ℕ → ℕ
-walk g i [] = i
-walk g i (a ∷ w) = walk g (target g i a) w
+walk g i w = moved (target g) i w
 
 -- the node to which a word leads from the root
 abbrev pub node : Graph → List ℕ → ℕ
@@ -44,7 +44,7 @@ pub record IsShortlex (g : Graph) (words : List (List ℕ)) : Type 0 where
 pub record IsGraphOf (k : ℕ) (same : List ℕ → List ℕ → Type 0) (g : Graph) (words : List (List ℕ)) : Type 0 where
   pub letters : g.letters ≡ k
   pub shortlex : IsShortlex g words
-  pub nodes : (u v : List ℕ) → Over k u → Over k v → SameNode g u v ↔ same u v
+  pub nodes : Agree k (SameNode g) same
 
 -- Class numbers below `count`, one for each node, in the order in which the classes first occur.
 pub record IsNumbering (count : ℕ) (classes : List ℕ) : Type 0 where

@@ -1,4 +1,4 @@
--- Words over the first k letters: lists of letter numbers (Pin, "Mathematical Foundations of Automata Theory": words, factors, subwords, the shortlex order).
+-- Words over the first k letters: lists of letter numbers (Pin, "Mathematical Foundations of Automata Theory": words, prefixes, factors, subwords, the shortlex order).
 use Rattle.std.specs.Prelude.{◌≡◌, ◌<◌, ◌++◌, ℕ, zero, suc, List, [], ◌∷◌, length}
 use Rattle.std.specs.Prelude.{slice_index_or}
 use Rattle.std.specs.declared.cmp.Ordering.{Ordering}
@@ -16,15 +16,19 @@ abbrev pub power : ℕ → List ℕ → List ℕ
 power zero w = []
 power (suc n) w = w ++ power n w
 
+-- w begins with u
+abbrev pub IsPrefix : List ℕ → List ℕ → Type 0
+IsPrefix u w = (rest : List ℕ) × (u ++ rest ≡ w)
+
 -- u is a run of neighbouring letters of w
 abbrev pub IsFactor : List ℕ → List ℕ → Type 0
 IsFactor u w = (p q : List ℕ) × (p ++ (u ++ q) ≡ w)
 
 -- the first word is what is left of the second when any letters are deleted
-pub data Sub : List ℕ → List ℕ → Type 0 where
-  done : Sub [] []
-  keep : {a : ℕ} {u v : List ℕ} → Sub u v → Sub (a ∷ u) (a ∷ v)
-  skip : {a : ℕ} {u v : List ℕ} → Sub u v → Sub u (a ∷ v)
+pub data IsSubword : List ℕ → List ℕ → Type 0 where
+  done : IsSubword [] []
+  keep : {a : ℕ} {u v : List ℕ} → IsSubword u v → IsSubword (a ∷ u) (a ∷ v)
+  skip : {a : ℕ} {u v : List ℕ} → IsSubword u v → IsSubword u (a ∷ v)
 
 -- by length, and words of one length by the first letter that differs
 abbrev pub shortlex : List ℕ → List ℕ → Ordering

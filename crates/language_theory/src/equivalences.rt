@@ -2,7 +2,8 @@
 
 ghost use Rattle.std.specs.Prelude.{◌<◌, ◌++◌, ◌↔◌, ℕ, List};
 ghost use Rattle.language_theory.specs.Words.{Over};
-ghost use Rattle.language_theory.specs.Congruence.{Syntactic, IsRightCongruence, IsCongruence, MapsAlike};
+ghost use Rattle.language_theory.specs.Congruence.{Syntactic, IsRightCongruence, IsCongruence, Agree, MapsAlike};
+ghost use Rattle.language_theory.specs.Languages.{HaveSameWords};
 ghost use Rattle.language_theory.specs.Nerode.{Nerode};
 
 use crate::language::{Language, Relation};
@@ -29,8 +30,15 @@ pub fn syntactic_is_nerode_behind_words<L: Language>()
 
 /// Languages with the same words over k letters have the same equivalences there.
 pub fn agreeing_languages_have_one_congruence<L: Language, M: Language>()
-    ensures nerode { (k : ℕ) → ((w : List ℕ) → Over k w → L.has w ↔ M.has w) → (u v : List ℕ) → Over k u → Over k v → Nerode k L.has u v ↔ Nerode k M.has u v }
-    ensures syntactic { (k : ℕ) → ((w : List ℕ) → Over k w → L.has w ↔ M.has w) → (u v : List ℕ) → Over k u → Over k v → Syntactic k L.has u v ↔ Syntactic k M.has u v }
+    ensures nerode { (k : ℕ) → HaveSameWords k L.has M.has → Agree k (Nerode k L.has) (Nerode k M.has) }
+    ensures syntactic { (k : ℕ) → HaveSameWords k L.has M.has → Agree k (Syntactic k L.has) (Syntactic k M.has) }
+{}
+
+/// To agree on the words over k letters is an equivalence of relations.
+pub fn agreement_is_an_equivalence<R: Relation, S: Relation, T: Relation>()
+    ensures itself { (k : ℕ) → Agree k R.same R.same }
+    ensures turned { (k : ℕ) → Agree k R.same S.same → Agree k S.same R.same }
+    ensures joined { (k : ℕ) → Agree k R.same S.same → Agree k S.same T.same → Agree k R.same T.same }
 {}
 
 /// To move n points alike is a congruence, where each letter moves points to points.

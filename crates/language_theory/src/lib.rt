@@ -9,4 +9,5 @@ pub mod minimal_automata;
 pub mod paths;
 pub mod reduced_words;
 pub mod shortlex_graphs;
+pub mod subwords;
 pub mod words;

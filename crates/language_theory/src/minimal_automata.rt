@@ -3,9 +3,10 @@
 ghost use Rattle.std.specs.Prelude.{◌≡◌, ◌<◌, ◌↔◌, ℕ, Bool, IsTrue, List, length, slice_index};
 ghost use Rattle.language_theory.specs.Words.{Over};
 ghost use Rattle.language_theory.specs.Automaton.{is_marked};
-ghost use Rattle.language_theory.specs.Congruence.{Syntactic, MapsAlike};
+ghost use Rattle.language_theory.specs.Congruence.{Syntactic, Agree, MapsAlike};
+ghost use Rattle.language_theory.specs.Languages.{HaveSameWords};
 ghost use Rattle.language_theory.specs.Nerode.{Nerode, IsMinimal, MinimalAutomaton};
-ghost use Rattle.language_theory.specs.ShortlexGraph.{Graph, node, target, walk, SameNode, IsShortlex, IsQuotient, AreFirstWords, IsCoarsest};
+ghost use Rattle.language_theory.specs.ShortlexGraph.{Graph, node, target, SameNode, IsShortlex, IsQuotient, AreFirstWords, IsCoarsest};
 
 use crate::language::Language;
 
@@ -18,13 +19,12 @@ pub fn coarsest_quotient_is_minimal<L: Language>()
 /// A language has one minimal automaton, and so have languages with the same words over k letters.
 pub fn one_minimal_automaton<L: Language, M: Language>()
     ensures one { (k : ℕ) (c d : MinimalAutomaton) → IsMinimal k L.has c → IsMinimal k L.has d → c ≡ d }
-    ensures agreeing { (k : ℕ) (d : MinimalAutomaton) → ((w : List ℕ) → Over k w → L.has w ↔ M.has w) → IsMinimal k L.has d → IsMinimal k M.has d }
+    ensures agreeing { (k : ℕ) (d : MinimalAutomaton) → HaveSameWords k L.has M.has → IsMinimal k L.has d → IsMinimal k M.has d }
 {}
 
 /// In the minimal automaton words are Nerode equivalent exactly where they lead from the root to one node, and
 /// syntactically congruent exactly where they lead from each node to one node.
 pub fn minimal_nodes_tell_words_apart<L: Language>()
-    ensures nerode { (k : ℕ) (d : MinimalAutomaton) → IsMinimal k L.has d → (u v : List ℕ) → Over k u → Over k v → Nerode k L.has u v ↔ SameNode d.graph u v }
-    ensures syntactic { (k : ℕ) (d : MinimalAutomaton) → IsMinimal k L.has d → (u v : List ℕ) → Over k u → Over k v → Syntactic k L.has u v ↔ ((i : ℕ) → i < d.graph.size → walk d.graph i u ≡ walk d.graph i v) }
-    ensures maps { (k : ℕ) (d : MinimalAutomaton) → IsMinimal k L.has d → (u v : List ℕ) → Over k u → Over k v → Syntactic k L.has u v ↔ MapsAlike d.graph.size (target d.graph) u v }
+    ensures nerode { (k : ℕ) (d : MinimalAutomaton) → IsMinimal k L.has d → Agree k (Nerode k L.has) (SameNode d.graph) }
+    ensures syntactic { (k : ℕ) (d : MinimalAutomaton) → IsMinimal k L.has d → Agree k (Syntactic k L.has) (MapsAlike d.graph.size (target d.graph)) }
 {}

@@ -4,7 +4,7 @@ ghost use Rattle.std.specs.Prelude.{◌≡◌, ◌<◌, ◌++◌, ◌↔◌, ◌
 ghost use Rattle.language_theory.specs.Words.{Over, IsFactor, word_at};
 ghost use Rattle.language_theory.specs.Representatives.{AreRepresentatives, IsReduced, HasMoreClasses};
 ghost use Rattle.language_theory.specs.Links.{IsPrefixLink, IsSuffixLink};
-ghost use Rattle.language_theory.specs.Congruence.{IsEquivalence, IsRightCongruence, IsCongruence};
+ghost use Rattle.language_theory.specs.Congruence.{IsEquivalence, IsRightCongruence, IsCongruence, Agree};
 
 use crate::language::Relation;
 
@@ -15,7 +15,7 @@ pub fn one_list_of_representatives<R: Relation>()
 
 /// Relations that agree on the words over k letters have the same lists of least representatives.
 pub fn agreeing_relations_have_one_list<R: Relation, S: Relation>()
-    ensures { (k : ℕ) (words : List (List ℕ)) → ((u v : List ℕ) → Over k u → Over k v → R.same u v ↔ S.same u v) → AreRepresentatives k R.same words → AreRepresentatives k S.same words }
+    ensures { (k : ℕ) (words : List (List ℕ)) → Agree k R.same S.same → AreRepresentatives k R.same words → AreRepresentatives k S.same words }
 {}
 
 /// The listed words are the reduced ones.

@@ -2,7 +2,7 @@
 
 ghost use Rattle.std.specs.Prelude.{◌≡◌, ◌<◌, ◌++◌, ◌∷◌, ◌↔◌, [], ℕ, List, length, slice_index};
 ghost use Rattle.language_theory.specs.Words.{Over, ◌⊏◌, word_at};
-ghost use Rattle.language_theory.specs.Congruence.{IsRightCongruence};
+ghost use Rattle.language_theory.specs.Congruence.{IsRightCongruence, Agree};
 ghost use Rattle.language_theory.specs.ShortlexGraph.{Graph, target, walk, node, SameNode, IsGraph, IsShortlex, IsGraphOf, IsNumbering, IsFirst, IsPartition, IsQuotient, AreFirstWords};
 
 use crate::language::Relation;
@@ -18,7 +18,7 @@ pub fn walks_follow_words()
 /// over k letters.
 pub fn one_shortlex_graph<R: Relation, S: Relation>()
     ensures one { (k : ℕ) (g h : Graph) (xs ys : List (List ℕ)) → IsGraphOf k R.same g xs → IsGraphOf k R.same h ys → (g ≡ h) × (xs ≡ ys) }
-    ensures agreeing { (k : ℕ) (g h : Graph) (xs ys : List (List ℕ)) → ((u v : List ℕ) → Over k u → Over k v → R.same u v ↔ S.same u v) → IsGraphOf k R.same g xs → IsGraphOf k S.same h ys → (g ≡ h) × (xs ≡ ys) }
+    ensures agreeing { (k : ℕ) (g h : Graph) (xs ys : List (List ℕ)) → Agree k R.same S.same → IsGraphOf k R.same g xs → IsGraphOf k S.same h ys → (g ≡ h) × (xs ≡ ys) }
 {}
 
 /// The word of the root is empty, and a prefix of the least word of a node is the least word of the node to which it

@@ -14,7 +14,7 @@ use Rattle.monoid_theory.proofs.AbStarMonoid.{graph, ab_star_monoid_graph}
 
 -- words that lead to one node are congruent
 congruent : (u v : List ℕ) → Over 2 u → Over 2 v → SameNode ab_star_monoid u v → Syntactic 2 IsAbStar u v
-congruent u v ou ov e = (ab_star_monoid_graph.nodes u v ou ov).0 e
+congruent u v ou ov e = (ab_star_monoid_graph.nodes.both u v ou ov).0 e
 
 a : Over 2 (0 ∷ [])
 a = (omega arith, tt)
@@ -61,13 +61,13 @@ through_aa x y ox oy = walk_append ab_star_monoid 0 x (0 ∷ 0 ∷ y) ∙ (ap (�
 
 pub a_not_j_aa : ¬ IsJ 2 (Syntactic 2 IsAbStar) (0 ∷ []) (0 ∷ 0 ∷ [])
 a_not_j_aa ((x, y, ox, oy, s), t) =
-    let e : 1 ≡ node ab_star_monoid (x ++ (0 ∷ 0 ∷ y)) = (ab_star_monoid_graph.nodes (0 ∷ []) (x ++ (0 ∷ 0 ∷ y)) a (over_append 2 x (0 ∷ 0 ∷ y) ox (omega arith, (omega arith, oy)))).1 s in
+    let e : 1 ≡ node ab_star_monoid (x ++ (0 ∷ 0 ∷ y)) = (ab_star_monoid_graph.nodes.both (0 ∷ []) (x ++ (0 ∷ 0 ∷ y)) a (over_append 2 x (0 ∷ 0 ∷ y) ox (omega arith, (omega arith, oy)))).1 s in
     let f = through_aa x y ox oy in
     omega arith
 
 pub one_not_j_aa : ¬ IsJ 2 (Syntactic 2 IsAbStar) [] (0 ∷ 0 ∷ [])
 one_not_j_aa ((x, y, ox, oy, s), t) =
-    let e : 0 ≡ node ab_star_monoid (x ++ (0 ∷ 0 ∷ y)) = (ab_star_monoid_graph.nodes [] (x ++ (0 ∷ 0 ∷ y)) tt (over_append 2 x (0 ∷ 0 ∷ y) ox (omega arith, (omega arith, oy)))).1 s in
+    let e : 0 ≡ node ab_star_monoid (x ++ (0 ∷ 0 ∷ y)) = (ab_star_monoid_graph.nodes.both [] (x ++ (0 ∷ 0 ∷ y)) tt (over_append 2 x (0 ∷ 0 ∷ y) ox (omega arith, (omega arith, oy)))).1 s in
     let f = through_aa x y ox oy in
     omega arith
 
@@ -80,7 +80,7 @@ pub one_not_j_a : ¬ IsJ 2 (Syntactic 2 IsAbStar) [] (0 ∷ [])
 one_not_j_a ((x, y, ox, oy, s), t) =
     let i = node ab_star_monoid x in
     let l = node_within ab_star_monoid x graph ox in
-    let e : 0 ≡ node ab_star_monoid (x ++ (0 ∷ y)) = (ab_star_monoid_graph.nodes [] (x ++ (0 ∷ y)) tt (over_append 2 x (0 ∷ y) ox (omega arith, oy))).1 s in
+    let e : 0 ≡ node ab_star_monoid (x ++ (0 ∷ y)) = (ab_star_monoid_graph.nodes.both [] (x ++ (0 ∷ y)) tt (over_append 2 x (0 ∷ y) ox (omega arith, oy))).1 s in
     let f : node ab_star_monoid (x ++ (0 ∷ y)) ≡ walk ab_star_monoid (target ab_star_monoid i 0) y = walk_append ab_star_monoid 0 x (0 ∷ y) in
     let g : 0 < target ab_star_monoid i 0 = ltb-true 0 (target ab_star_monoid i 0) (at_every 6 (λ i. ltb 0 (target ab_star_monoid i 0)) refl i l) in
     let m : 0 < walk ab_star_monoid (target ab_star_monoid i 0) y = never_back (target ab_star_monoid i 0) y g (target_within ab_star_monoid i 0 graph l (omega arith)) oy in

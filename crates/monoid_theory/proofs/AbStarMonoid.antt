@@ -3,12 +3,12 @@ use Rattle.std.proofs.Common.{◌≡◌, ℕ, zero, suc, ◌+◌, ◌*◌, ◌<�
 use Rattle.std.proofs.lemmas.Bool.{eqb-true, eq-eqb, ltb-true, lt-ltb}
 use Rattle.std.proofs.lemmas.Grind.{get_or_default_zero}
 use Rattle.language_theory.specs.Words.{Over, word_at, shortlex, ◌⊏◌}
-use Rattle.language_theory.specs.Congruence.{Syntactic}
+use Rattle.language_theory.specs.Congruence.{Syntactic, Agree, MapsAlike}
 use Rattle.language_theory.specs.ShortlexGraph.{target, walk, node, SameNode, IsGraph, IsShortlex, IsGraphOf}
 use Rattle.language_theory.specs.Examples.{IsAbStar, ab_star}
 use Rattle.monoid_theory.specs.Examples.{ab_star_monoid, ab_star_elements}
 use Rattle.monoid_theory.proofs.SmallTests.{every_below, at_every, at_every_two, is_less, is_not_less, less_if, not_less_if, under}
-use Rattle.language_theory.proofs.Congruences.{both_directions, other_direction}
+use Rattle.language_theory.proofs.Congruences.{agree_joined, agree_turned}
 use Rattle.language_theory.proofs.Graphs.{node_within, target_within}
 use Rattle.language_theory.proofs.ShortlexCriterion.{shortlex_by_letters}
 use Rattle.language_theory.proofs.Minimal.{syntactic_by_walks}
@@ -66,12 +66,12 @@ code_is_one : (m n : ℕ) → m < 6 → n < 6 → code m ≡ code n → m ≡ n
 unfolding code act
 code_is_one m n h g e = eqb-true m n (under (eqb (code m) (code n)) (eqb m n) (at_every_two 6 6 (λ m n. cond (eqb (code m) (code n)) (eqb m n) true) refl m n h g) (eq-eqb (code m) (code n) e))
 
-moves_alike : (u v : List ℕ) → Over 2 u → Over 2 v → SameNode ab_star_monoid u v ↔ ((i : ℕ) → i < 3 → walk ab_star.graph i u ≡ walk ab_star.graph i v)
+moves_alike : Agree 2 (SameNode ab_star_monoid) (MapsAlike 3 (target ab_star.graph))
 unfolding code
-moves_alike u v ou ov = (λ e i h. sym (act_node i u h ou) ∙ (ap (λ (m : ℕ). act m i) e ∙ act_node i v h ov), from)
+moves_alike = record { both = λ u v ou ov. (λ e i h. sym (act_node i u h ou) ∙ (ap (λ (m : ℕ). act m i) e ∙ act_node i v h ov), from u v ou ov) }
   where
-    from : ((i : ℕ) → i < 3 → walk ab_star.graph i u ≡ walk ab_star.graph i v) → SameNode ab_star_monoid u v
-    from f = code_is_one (node ab_star_monoid u) (node ab_star_monoid v) (node_within ab_star_monoid u graph ou) (node_within ab_star_monoid v graph ov) same
+    from : (u v : List ℕ) → Over 2 u → Over 2 v → MapsAlike 3 (target ab_star.graph) u v → SameNode ab_star_monoid u v
+    from u v ou ov f = code_is_one (node ab_star_monoid u) (node ab_star_monoid v) (node_within ab_star_monoid u graph ou) (node_within ab_star_monoid v graph ov) same
       where
         at : (i : ℕ) → i < 3 → act (node ab_star_monoid u) i ≡ act (node ab_star_monoid v) i
         at i h = act_node i u h ou ∙ (f i h ∙ sym (act_node i v h ov))
@@ -81,4 +81,9 @@ moves_alike u v ou ov = (λ e i h. sym (act_node i u h ou) ∙ (ap (λ (m : ℕ)
 
 -- the graph is that of the syntactic congruence of (ab)*
 pub ab_star_monoid_graph : IsGraphOf 2 (Syntactic 2 IsAbStar) ab_star_monoid ab_star_elements
-ab_star_monoid_graph = record { letters = refl; shortlex = shortlex_graph; nodes = λ u v ou ov. both_directions (moves_alike u v ou ov) (other_direction (syntactic_by_walks 2 IsAbStar ab_star ab_star_minimal u v ou ov)) }
+ab_star_monoid_graph = record {
+  letters = refl;
+  shortlex = shortlex_graph;
+  nodes = agree_joined 2 (SameNode ab_star_monoid) (MapsAlike 3 (target ab_star.graph)) (Syntactic 2 IsAbStar) moves_alike
+    (agree_turned 2 (Syntactic 2 IsAbStar) (MapsAlike 3 (target ab_star.graph)) (syntactic_by_walks 2 IsAbStar ab_star ab_star_minimal));
+}

@@ -6,7 +6,7 @@ use Rattle.language_theory.specs.Congruence.{IsRightCongruence, IsCongruence}
 use Rattle.language_theory.specs.Representatives.{IsPlaceOf, AreRepresentatives}
 use Rattle.language_theory.specs.ShortlexGraph.{Graph, target, walk, node, IsGraphOf}
 use Rattle.monoid_theory.specs.Products.{IsRightGraph, IsLeftGraph}
-use Rattle.monoid_theory.specs.Green.{IsInRight, IsInLeft, IsInIdeal}
+use Rattle.monoid_theory.specs.Green.{IsInRightIdeal, IsInLeftIdeal, IsInIdeal}
 use Rattle.language_theory.proofs.Shortlex.{over_append, over_last}
 use Rattle.language_theory.proofs.Representatives.{place_of_related}
 use Rattle.language_theory.proofs.Congruences.{right_congruence}
@@ -24,8 +24,8 @@ over_reverse k (a ∷ w) o = subst (Over k) (sym (reverse_first a w)) (over_last
 pub node_is_place : (k : ℕ) (same : List ℕ → List ℕ → Type 0) (g : Graph) (words : List (List ℕ)) → IsGraphOf k same g words → (w : List ℕ) → Over k w → IsPlaceOf same words w (node g w)
 node_is_place k same g words h w o = record {
   within = let e = h.shortlex.long in let b = inside in omega arith;
-  related = (h.nodes (word_at words (node g w)) w (l.over (node g w) (let e = h.shortlex.long in let b = inside in omega arith)) o).0 (h.shortlex.leads (node g w) inside);
-  only = λ j m s. sym (h.shortlex.leads j (let e = h.shortlex.long in omega arith)) ∙ (h.nodes (word_at words j) w (l.over j m) o).1 s;
+  related = (h.nodes.both (word_at words (node g w)) w (l.over (node g w) (let e = h.shortlex.long in let b = inside in omega arith)) o).0 (h.shortlex.leads (node g w) inside);
+  only = λ j m s. sym (h.shortlex.leads j (let e = h.shortlex.long in omega arith)) ∙ (h.nodes.both (word_at words j) w (l.over j m) o).1 s;
 }
   where
     l : AreRepresentatives k same words
@@ -72,7 +72,7 @@ module _ (k : ℕ) (same : List ℕ → List ℕ → Type 0) (words : List (List
       oi = over_last k (word_at words i) a (l.over i m) o.0
 
   -- the right ideal of i is what walks from i in the right graph lead to
-  pub right_ideal_walks : (g : Graph) → IsRightGraph k same words g → (i j : ℕ) → i < length words → j < length words → IsInRight k same (word_at words j) (word_at words i) ↔ ((x : List ℕ) × Over k x × (walk g i x ≡ j))
+  pub right_ideal_walks : (g : Graph) → IsRightGraph k same words g → (i j : ℕ) → i < length words → j < length words → IsInRightIdeal k same (word_at words j) (word_at words i) ↔ ((x : List ℕ) × Over k x × (walk g i x ≡ j))
   right_ideal_walks g h i j m n = (
     λ s. (s.0, s.1, (placed_at same words (word_at words i ++ s.0) j (walk g i s.0) n (right_walk g h s.0 i m s.1)).0 s.2),
     λ s. (s.0, s.1, (placed_at same words (word_at words i ++ s.0) j (walk g i s.0) n (right_walk g h s.0 i m s.1)).1 s.2),
@@ -103,13 +103,13 @@ module _ (k : ℕ) (same : List ℕ → List ℕ → Type 0) (words : List (List
       grouped = sym (append_assoc (reverse x) (a ∷ []) (word_at words i)) ∙ ap (λ (w : List ℕ). w ++ word_at words i) (sym (reverse_first a x))
 
   -- the left ideal of i is what walks from i in the left graph lead to
-  pub left_ideal_walks : (g : Graph) → IsLeftGraph k same words g → (i j : ℕ) → i < length words → j < length words → IsInLeft k same (word_at words j) (word_at words i) ↔ ((x : List ℕ) × Over k x × (walk g i x ≡ j))
+  pub left_ideal_walks : (g : Graph) → IsLeftGraph k same words g → (i j : ℕ) → i < length words → j < length words → IsInLeftIdeal k same (word_at words j) (word_at words i) ↔ ((x : List ℕ) × Over k x × (walk g i x ≡ j))
   left_ideal_walks g h i j m n = (to, from)
     where
-      to : IsInLeft k same (word_at words j) (word_at words i) → (x : List ℕ) × Over k x × (walk g i x ≡ j)
+      to : IsInLeftIdeal k same (word_at words j) (word_at words i) → (x : List ℕ) × Over k x × (walk g i x ≡ j)
       to (x, o, s) = (reverse x, over_reverse k x o, (placed_at same words (x ++ word_at words i) j (walk g i (reverse x)) n (subst (λ (y : List ℕ). IsPlaceOf same words (y ++ word_at words i) (walk g i (reverse x))) (reverse-reverse x) (left_walk g h (reverse x) i m (over_reverse k x o)))).0 s)
 
-      from : (x : List ℕ) × Over k x × (walk g i x ≡ j) → IsInLeft k same (word_at words j) (word_at words i)
+      from : (x : List ℕ) × Over k x × (walk g i x ≡ j) → IsInLeftIdeal k same (word_at words j) (word_at words i)
       from (x, o, e) = (reverse x, over_reverse k x o, (placed_at same words (reverse x ++ word_at words i) j (walk g i x) n (left_walk g h x i m o)).1 e)
 
   -- the two-sided ideal of i is what a walk in the right graph and then one in the left graph lead to

@@ -3,7 +3,7 @@ use Rattle.std.proofs.Common.{◌≡◌, ◌↔◌, ◌⊎◌, inl, inr, ℕ, �
 use Rattle.std.proofs.lemmas.Bool.{cases_lt}
 use Rattle.std.proofs.lemmas.Nat.{mod-mul-add, div-mul-add, div_below, mod_below}
 use Rattle.language_theory.specs.Words.{Over, ◌⊏◌, word_at}
-use Rattle.language_theory.specs.Languages.{OneOf, IsLeastWord}
+use Rattle.language_theory.specs.Languages.{ExactlyOne, IsLeastWord}
 use Rattle.language_theory.specs.Automaton.{is_marked}
 use Rattle.language_theory.specs.Congruence.{Syntactic, moved}
 use Rattle.language_theory.specs.ShortlexGraph.{Graph, target, walk, node, SameNode, IsGraph, Alike}
@@ -29,14 +29,14 @@ separated_apart k L s t u v ou ov (inl (y, n)) h = n ((h u v ou ov).0 y)
 separated_apart k L s t u v ou ov (inr (n, y)) h = n ((h u v ou ov).1 y)
 
 -- of two marks that stand for facts
-apart_marks : (a b : Bool) (P Q : Type 0) → IsTrue a ↔ P → IsTrue b ↔ Q → OneOf P Q ↔ ¬ (a ≡ b)
+apart_marks : (a b : Bool) (P Q : Type 0) → IsTrue a ↔ P → IsTrue b ↔ Q → ExactlyOne P Q ↔ ¬ (a ≡ b)
 apart_marks a b P Q f g = (to, from a b f g)
   where
-    to : OneOf P Q → ¬ (a ≡ b)
+    to : ExactlyOne P Q → ¬ (a ≡ b)
     to (inl (p, n)) e = n (g.0 (subst IsTrue e (f.1 p)))
     to (inr (n, q)) e = n (f.0 (subst IsTrue (sym e) (g.1 q)))
 
-    from : (a b : Bool) → IsTrue a ↔ P → IsTrue b ↔ Q → ¬ (a ≡ b) → OneOf P Q
+    from : (a b : Bool) → IsTrue a ↔ P → IsTrue b ↔ Q → ¬ (a ≡ b) → ExactlyOne P Q
     from true true f g n = absurd (n refl)
     from true false f g n = inl (f.0 refl, λ q. let e = g.1 q in cc)
     from false true f g n = inr (λ p. let e = f.1 p in cc, g.0 refl)
@@ -119,7 +119,7 @@ module _ (k : ℕ) (L : List ℕ → Type 0) (d : MinimalAutomaton) (h : IsMinim
       from : ¬ SameNode d.graph (u ++ s) (u ++ t) → CanSeparate k L s t u
       from n = elim (told_apart_or_alike d.graph h.classes.shortlex.graph d.finals (node d.graph (u ++ s)) (node d.graph (u ++ t)) (node_inside (u ++ s) one) (node_inside (u ++ t) other)) [
         | inl (v, o, f) ↦ (v, from_graph v o, (separates_by_marks s t u v os ot ou (from_graph v o)).1 f)
-        | inr a ↦ absurd (n ((h.classes.nodes (u ++ s) (u ++ t) one other).1 (nerode a)))
+        | inr a ↦ absurd (n ((h.classes.nodes.both (u ++ s) (u ++ t) one other).1 (nerode a)))
       ]
         where
           nerode : Alike d.graph d.finals (node d.graph (u ++ s)) (node d.graph (u ++ t)) → Nerode k L (u ++ s) (u ++ t)
@@ -201,7 +201,7 @@ module _ (k : ℕ) (L : List ℕ → Type 0) (d : MinimalAutomaton) (h : IsMinim
   pub congruent_or_separated : (s t : List ℕ) → Over k s → Over k t → Syntactic k L s t ⊎ ((u v : List ℕ) × IsSeparation k L s t u v)
   congruent_or_separated s t os ot = elim (parting_or_none s t) [
     | inl (i, f) ↦ inr (separation_at s t i os ot f)
-    | inr all ↦ inl ((syntactic_by_walks k L d h s t os ot).1 all)
+    | inr all ↦ inl (((syntactic_by_walks k L d h).both s t os ot).1 all)
   ]
 
   pub separation_exists : (s t : List ℕ) → Over k s → Over k t → ¬ Syntactic k L s t → (u v : List ℕ) × IsSeparation k L s t u v

@@ -4,7 +4,7 @@ use Rattle.language_theory.specs.Words.{Over, power}
 use Rattle.language_theory.specs.Congruence.{IsCongruence}
 use Rattle.language_theory.specs.Representatives.{AreRepresentatives}
 use Rattle.monoid_theory.specs.Powers.{IsIndexAndPeriod}
-use Rattle.monoid_theory.specs.Green.{IsInRight, IsInLeft, IsInIdeal, IsR, IsL, IsJ, IsD, IsRTrivial, IsLTrivial, IsJTrivial}
+use Rattle.monoid_theory.specs.Green.{IsInRightIdeal, IsInLeftIdeal, IsInIdeal, IsR, IsL, IsJ, IsD, IsRTrivial, IsLTrivial, IsJTrivial}
 use Rattle.language_theory.proofs.Shortlex.{over_append}
 use Rattle.language_theory.proofs.Congruences.{right_congruence}
 use Rattle.monoid_theory.proofs.Ideals.{related_between, related_equal, over_between, j_equivalence, r_in_j, l_in_j}
@@ -86,7 +86,7 @@ module _ (k : ℕ) (same : List ℕ → List ℕ → Type 0) (words : List (List
   pub r_of_ideal : (s x : List ℕ) → Over k s → Over k x → IsInIdeal k same s (s ++ x) → IsR k same s (s ++ x)
   r_of_ideal s x os ox (a, b, oa, ob, h) = (by (comes_back_behind s a (x ++ b) os oa (over_append k x b ox ob) (subst (λ (w : List ℕ). same s (a ++ w)) (append_assoc s x b) h)), (x, ox, c.equivalence.refl (s ++ x) (over_append k s x os ox)))
     where
-      by : (n : ℕ) × same s (s ++ power (suc n) (x ++ b)) → IsInRight k same s (s ++ x)
+      by : (n : ℕ) × same s (s ++ power (suc n) (x ++ b)) → IsInRightIdeal k same s (s ++ x)
       by (n, g) = (b ++ power n (x ++ b), over_append k b (power n (x ++ b)) ob (over_power k n (x ++ b) (over_append k x b ox ob)), subst (same s) grouped g)
         where
           grouped : s ++ ((x ++ b) ++ power n (x ++ b)) ≡ (s ++ x) ++ (b ++ power n (x ++ b))
@@ -99,7 +99,7 @@ module _ (k : ℕ) (same : List ℕ → List ℕ → Type 0) (words : List (List
       regrouped : a ++ ((x ++ s) ++ b) ≡ (a ++ x) ++ (s ++ b)
       regrouped = simp append_assoc
 
-      by : (n : ℕ) × same s (power (suc n) (a ++ x) ++ s) → IsInLeft k same s (x ++ s)
+      by : (n : ℕ) × same s (power (suc n) (a ++ x) ++ s) → IsInLeftIdeal k same s (x ++ s)
       by (n, g) = (power n (a ++ x) ++ a, over_append k (power n (a ++ x)) a (over_power k n (a ++ x) (over_append k a x oa ox)) oa, subst (same s) (ap (λ (w : List ℕ). w ++ s) (sym (power_behind n (a ++ x))) ∙ grouped) g)
         where
           grouped : (power n (a ++ x) ++ (a ++ x)) ++ s ≡ (power n (a ++ x) ++ a) ++ (x ++ s)

@@ -5,7 +5,7 @@ use Rattle.std.proofs.lemmas.List.{take-append-drop, length-take-le}
 use Rattle.language_theory.specs.Words.{Over}
 use Rattle.language_theory.specs.Congruence.{moved}
 use Rattle.language_theory.proofs.Numbers.{least_or_none, pigeonhole}
-use Rattle.language_theory.proofs.Shortlex.{strong_induction, over_append, over_front, over_back}
+use Rattle.language_theory.proofs.Shortlex.{strong_induction, over_append, over_prefix, over_suffix}
 use Rattle.language_theory.proofs.Congruences.{moved_append, moved_within}
 use Rattle.monoid_theory.proofs.Returns.{first_return, IsFirstReturn}
 
@@ -42,17 +42,17 @@ module _ (k m : ℕ) (image : ℕ → ℕ → ℕ) (within : (p a : ℕ) → p <
       at : ℕ → ℕ
       at j = moved image p (take j w)
 
-      front : (j : ℕ) → Over k (take j w)
-      front j = over_front k (take j w) (drop j w) (subst (Over k) (sym (take-append-drop j w)) o)
+      prefix : (j : ℕ) → Over k (take j w)
+      prefix j = over_prefix k (take j w) (drop j w) (subst (Over k) (sym (take-append-drop j w)) o)
 
-      back : (j : ℕ) → Over k (drop j w)
-      back j = over_back k (take j w) (drop j w) (subst (Over k) (sym (take-append-drop j w)) o)
+      suffix : (j : ℕ) → Over k (drop j w)
+      suffix j = over_suffix k (take j w) (drop j w) (subst (Over k) (sym (take-append-drop j w)) o)
 
       inside : (j : ℕ) → moved image p (take j w) < m
-      inside j = moved_within k m image within p (take j w) h (front j)
+      inside j = moved_within k m image within p (take j w) h (prefix j)
 
       by : (i j : ℕ) × IsFirstReturn at i j → (v : List ℕ) × Over k v × (length v < length w) × (moved image p v ≡ moved image p w)
-      by (i, j, r) = (take i w ++ drop j w, over_append k (take i w) (drop j w) (front i) (back j), less, same)
+      by (i, j, r) = (take i w ++ drop j w, over_append k (take i w) (drop j w) (prefix i) (suffix j), less, same)
         where
           few : j ≤ m
           few = pigeonhole j m at (λ n l. inside n) r.distinct

@@ -2,7 +2,7 @@
 use Rattle.std.proofs.Common.{◌≡◌, ◌↔◌, ℕ, List, [], ◌++◌, refl, ◌∙◌, sym, subst, append_assoc, append-nil}
 use Rattle.language_theory.specs.Words.{Over}
 use Rattle.language_theory.specs.Congruence.{IsEquivalence, IsRightCongruence, IsCongruence}
-use Rattle.monoid_theory.specs.Green.{IsInRight, IsInLeft, IsInIdeal, IsR, IsL, IsJ, IsH}
+use Rattle.monoid_theory.specs.Green.{IsInRightIdeal, IsInLeftIdeal, IsInIdeal, IsR, IsL, IsJ, IsH}
 use Rattle.language_theory.proofs.Shortlex.{over_append}
 use Rattle.language_theory.proofs.Congruences.{right_congruence}
 
@@ -15,10 +15,10 @@ both_ways k In itself through = record {
 }
 
 module _ (k : ℕ) (same : List ℕ → List ℕ → Type 0) where
-  pub right_in_ideal : (s t : List ℕ) → IsInRight k same s t → IsInIdeal k same s t
+  pub right_in_ideal : (s t : List ℕ) → IsInRightIdeal k same s t → IsInIdeal k same s t
   right_in_ideal s t (x, o, h) = ([], x, tt, o, h)
 
-  pub left_in_ideal : (s t : List ℕ) → IsInLeft k same s t → IsInIdeal k same s t
+  pub left_in_ideal : (s t : List ℕ) → IsInLeftIdeal k same s t → IsInIdeal k same s t
   left_in_ideal s t (x, o, h) = (x, [], o, tt, subst (λ (w : List ℕ). same s (x ++ w)) (sym (append-nil t)) h)
 
   pub r_in_j : (s t : List ℕ) → IsR k same s t → IsJ k same s t
@@ -31,10 +31,10 @@ module _ (k : ℕ) (same : List ℕ → List ℕ → Type 0) (e : IsEquivalence 
   pub related_equal : (u v : List ℕ) → Over k u → u ≡ v → same u v
   related_equal u v o d = subst (λ (w : List ℕ). same u w) d (e.refl u o)
 
-  pub in_right_itself : (s : List ℕ) → Over k s → IsInRight k same s s
+  pub in_right_itself : (s : List ℕ) → Over k s → IsInRightIdeal k same s s
   in_right_itself s o = ([], tt, related_equal s (s ++ []) o (sym (append-nil s)))
 
-  pub in_left_itself : (s : List ℕ) → Over k s → IsInLeft k same s s
+  pub in_left_itself : (s : List ℕ) → Over k s → IsInLeftIdeal k same s s
   in_left_itself s o = ([], tt, e.refl s o)
 
   pub in_ideal_itself : (s : List ℕ) → Over k s → IsInIdeal k same s s
@@ -49,7 +49,7 @@ module _ (k : ℕ) (same : List ℕ → List ℕ → Type 0) (e : IsEquivalence 
 
 module _ (k : ℕ) (same : List ℕ → List ℕ → Type 0) (c : IsRightCongruence k same) where
   -- an ideal of a member of an ideal is inside it
-  pub in_right_through : (r s t : List ℕ) → Over k r → Over k s → Over k t → IsInRight k same r s → IsInRight k same s t → IsInRight k same r t
+  pub in_right_through : (r s t : List ℕ) → Over k r → Over k s → Over k t → IsInRightIdeal k same r s → IsInRightIdeal k same s t → IsInRightIdeal k same r t
   in_right_through r s t or os ot (x, ox, h) (y, oy, g) = (
     y ++ x,
     over_append k y x oy ox,
@@ -57,11 +57,11 @@ module _ (k : ℕ) (same : List ℕ → List ℕ → Type 0) (c : IsRightCongrue
   )
 
   pub r_equivalence : IsEquivalence k (IsR k same)
-  r_equivalence = both_ways k (IsInRight k same) (in_right_itself k same c.equivalence) in_right_through
+  r_equivalence = both_ways k (IsInRightIdeal k same) (in_right_itself k same c.equivalence) in_right_through
 
 module _ (k : ℕ) (same : List ℕ → List ℕ → Type 0) (c : IsCongruence k same) where
   -- and so it is for left and two-sided ideals
-  pub in_left_through : (r s t : List ℕ) → Over k r → Over k s → Over k t → IsInLeft k same r s → IsInLeft k same s t → IsInLeft k same r t
+  pub in_left_through : (r s t : List ℕ) → Over k r → Over k s → Over k t → IsInLeftIdeal k same r s → IsInLeftIdeal k same s t → IsInLeftIdeal k same r t
   in_left_through r s t or os ot (x, ox, h) (y, oy, g) = (
     x ++ y,
     over_append k x y ox oy,
@@ -88,7 +88,7 @@ module _ (k : ℕ) (same : List ℕ → List ℕ → Type 0) (c : IsCongruence k
       grouped = simp append_assoc
 
   pub l_equivalence : IsEquivalence k (IsL k same)
-  l_equivalence = both_ways k (IsInLeft k same) (in_left_itself k same c.equivalence) in_left_through
+  l_equivalence = both_ways k (IsInLeftIdeal k same) (in_left_itself k same c.equivalence) in_left_through
 
   pub j_equivalence : IsEquivalence k (IsJ k same)
   j_equivalence = both_ways k (IsInIdeal k same) (in_ideal_itself k same c.equivalence) in_ideal_through
@@ -103,10 +103,10 @@ module _ (k : ℕ) (same : List ℕ → List ℕ → Type 0) (c : IsCongruence k
       right : IsEquivalence k (IsR k same)
       right = r_equivalence k same (right_congruence k same c)
 
-  in_right_before : (w s t : List ℕ) → Over k w → Over k s → Over k t → IsInRight k same s t → IsInRight k same (w ++ s) (w ++ t)
+  in_right_before : (w s t : List ℕ) → Over k w → Over k s → Over k t → IsInRightIdeal k same s t → IsInRightIdeal k same (w ++ s) (w ++ t)
   in_right_before w s t ow os ot (x, ox, h) = (x, ox, rw append_assoc (c.left s (t ++ x) w os (over_append k t x ot ox) ow h))
 
-  in_left_behind : (w s t : List ℕ) → Over k w → Over k s → Over k t → IsInLeft k same s t → IsInLeft k same (s ++ w) (t ++ w)
+  in_left_behind : (w s t : List ℕ) → Over k w → Over k s → Over k t → IsInLeftIdeal k same s t → IsInLeftIdeal k same (s ++ w) (t ++ w)
   in_left_behind w s t ow os ot (x, ox, h) = (x, ox, rw (← append_assoc x t w) (c.right s (x ++ t) w os (over_append k x t ox ot) ow h))
 
   -- R is kept by multiplication on the left, and L by multiplication on the right
@@ -118,14 +118,14 @@ module _ (k : ℕ) (same : List ℕ → List ℕ → Type 0) (c : IsCongruence k
 
 -- where the elements are the values of words, an ideal is that of the values
 module _ (k : ℕ) (value : List ℕ → ℕ) (c : IsRightCongruence k (λ u v. value u ≡ value v)) where
-  pub right_ideal_of_values : (s t : List ℕ) → Over k s → IsInRight k (λ u v. value u ≡ value v) t s ↔ ((w y : List ℕ) × Over k w × Over k y × (value w ≡ value s) × (value (w ++ y) ≡ value t))
+  pub right_ideal_of_values : (s t : List ℕ) → Over k s → IsInRightIdeal k (λ u v. value u ≡ value v) t s ↔ ((w y : List ℕ) × Over k w × Over k y × (value w ≡ value s) × (value (w ++ y) ≡ value t))
   right_ideal_of_values s t os = (
     λ h. (s, h.0, os, h.1, refl, sym h.2),
     λ h. (h.1, h.3, sym h.5 ∙ c.right h.0 s h.1 h.2 os h.3 h.4),
   )
 
 module _ (k : ℕ) (value : List ℕ → ℕ) (c : IsCongruence k (λ u v. value u ≡ value v)) where
-  pub left_ideal_of_values : (s t : List ℕ) → Over k s → IsInLeft k (λ u v. value u ≡ value v) t s ↔ ((w x : List ℕ) × Over k w × Over k x × (value w ≡ value s) × (value (x ++ w) ≡ value t))
+  pub left_ideal_of_values : (s t : List ℕ) → Over k s → IsInLeftIdeal k (λ u v. value u ≡ value v) t s ↔ ((w x : List ℕ) × Over k w × Over k x × (value w ≡ value s) × (value (x ++ w) ≡ value t))
   left_ideal_of_values s t os = (
     λ h. (s, h.0, os, h.1, refl, sym h.2),
     λ h. (h.1, h.3, sym h.5 ∙ c.left h.0 s h.1 h.2 os h.3 h.4),

@@ -5,7 +5,7 @@ use Rattle.language_theory.specs.Words.{Over, ◌⊏◌, word_at}
 use Rattle.language_theory.specs.Congruence.{IsCongruence}
 use Rattle.language_theory.specs.Representatives.{IsPlaceOf, AreRepresentatives, IsReduced}
 use Rattle.monoid_theory.specs.Presentation.{IsRule, AreRules, rule_at, IsReplacement, Rewrites, unchanged, replaced}
-use Rattle.language_theory.proofs.Shortlex.{over_front, over_back, shortlex_induction}
+use Rattle.language_theory.proofs.Shortlex.{over_prefix, over_suffix, shortlex_induction}
 use Rattle.language_theory.proofs.Representatives.{reduced_is_listed, place_of_related, HasAll, Rises, rising_lists_equal}
 use Rattle.language_theory.proofs.Representatives.{place_is_one, place_of_listed}
 use Rattle.monoid_theory.proofs.Ideals.{related_between}
@@ -36,7 +36,7 @@ rewrites_between p q (replaced m h) = replaced (replaced_between p q m) (rewrite
 module _ (k : ℕ) (same : List ℕ → List ℕ → Type 0) (words : List (List ℕ)) (c : IsCongruence k same) (l : AreRepresentatives k same words) (rules : List (List ℕ × ℕ)) (r : AreRules k same words rules) where
   -- a replacement gives a related word
   pub replacement_related : (u v : List ℕ) → Over k u → IsReplacement words rules u v → same u v
-  replacement_related u v o m = subst₂ same (sym m.holds) (sym m.gives) (related_between k same c left right m.before m.behind rule.over right_over (over_front k m.before (left ++ m.behind) whole) (over_back k left m.behind (over_back k m.before (left ++ m.behind) whole)) (c.equivalence.symm right left right_over rule.over rule.place.related))
+  replacement_related u v o m = subst₂ same (sym m.holds) (sym m.gives) (related_between k same c left right m.before m.behind rule.over right_over (over_prefix k m.before (left ++ m.behind) whole) (over_suffix k left m.behind (over_suffix k m.before (left ++ m.behind) whole)) (c.equivalence.symm right left right_over rule.over rule.place.related))
     where
       left : List ℕ
       left = (rule_at rules m.rule).0

@@ -6,7 +6,7 @@ use Rattle.language_theory.specs.Representatives.{IsPlaceOf, AreRepresentatives,
 use Rattle.language_theory.specs.Links.{IsSuffixLink}
 use Rattle.monoid_theory.specs.Products.{IsRight}
 use Rattle.monoid_theory.specs.Presentation.{IsRule}
-use Rattle.language_theory.proofs.Shortlex.{over_back, over_last, last_letter, last_letter_is_one, smaller_with_letters, smaller_last_letter}
+use Rattle.language_theory.proofs.Shortlex.{over_suffix, over_last, last_letter, last_letter_is_one, smaller_with_letters, smaller_last_letter}
 use Rattle.language_theory.proofs.Representatives.{reduced_is_listed, listed_is_reduced, empty_is_reduced, place_is_one, place_of_listed, first_is_empty}
 
 module _ (k : ℕ) (same : List ℕ → List ℕ → Type 0) (words : List (List ℕ)) (l : AreRepresentatives k same words) where
@@ -17,8 +17,8 @@ module _ (k : ℕ) (same : List ℕ → List ℕ → Type 0) (words : List (List
       by : (left ≡ []) ⊎ ((u : List ℕ) × (a : ℕ) × (left ≡ u ++ a ∷ [])) → (i a : ℕ) × (i < length words) × (a < k) × (left ≡ word_at words i ++ a ∷ [])
       by (inl f) = absurd (r.unreduced (subst (IsReduced k same) (sym f) (empty_is_reduced k same)))
       by (inr (u, a, f)) =
-          let (i, h, g) = reduced_is_listed k same words l u (r.front u a (sym f)) in
-          (i, a, h, (over_back k u (a ∷ []) (subst (Over k) f r.over)).0, f ∙ ap (λ (w : List ℕ). w ++ a ∷ []) (sym g))
+          let (i, h, g) = reduced_is_listed k same words l u (r.prefix u a (sym f)) in
+          (i, a, h, (over_suffix k u (a ∷ []) (subst (Over k) f r.over)).0, f ∙ ap (λ (w : List ℕ). w ++ a ∷ []) (sym g))
 
   -- listed words with letters behind rise with the places, and at one place with the letters
   pub left_sides_rise : (i j a b : ℕ) → j < length words → (i < j) ⊎ ((i ≡ j) × (a < b)) → (word_at words i ++ a ∷ []) ⊏ (word_at words j ++ b ∷ [])
@@ -52,19 +52,19 @@ module _ (k : ℕ) (same : List ℕ → List ℕ → Type 0) (words : List (List
       whole = ap (λ (w : List ℕ). w ++ a ∷ []) link.splits
 
       to : IsRule k same words (word_at words i ++ a ∷ []) r → ¬ (word_at words r ≡ word_at words i ++ a ∷ []) × (word_at words q ≡ word_at words s ++ a ∷ [])
-      to f = (λ g. f.unreduced ((reduced_at_place (word_at words i ++ a ∷ []) r p).1 g), (reduced_at_place (word_at words s ++ a ∷ []) q t).0 (f.back b (word_at words s ++ a ∷ []) (sym whole)))
+      to f = (λ g. f.unreduced ((reduced_at_place (word_at words i ++ a ∷ []) r p).1 g), (reduced_at_place (word_at words s ++ a ∷ []) q t).0 (f.suffix b (word_at words s ++ a ∷ []) (sym whole)))
 
       from : ¬ (word_at words r ≡ word_at words i ++ a ∷ []) × (word_at words q ≡ word_at words s ++ a ∷ []) → IsRule k same words (word_at words i ++ a ∷ []) r
       from (n, g) = record {
         over = over_last k (word_at words i) a (l.over i hi) ha;
         unreduced = λ d. n ((reduced_at_place (word_at words i ++ a ∷ []) r p).0 d);
-        front = λ w x f. subst (IsReduced k same) (sym ((last_letter_is_one w (word_at words i) x a f).0)) (listed_is_reduced k same words l e i hi);
-        back = back;
+        prefix = λ w x f. subst (IsReduced k same) (sym ((last_letter_is_one w (word_at words i) x a f).0)) (listed_is_reduced k same words l e i hi);
+        suffix = suffix;
         place = p;
       }
         where
-          back : (x : ℕ) (w : List ℕ) → x ∷ w ≡ word_at words i ++ a ∷ [] → IsReduced k same w
-          back x w f = let d = f ∙ whole in let m : word_at words s ++ a ∷ [] ≡ w = cc in subst (IsReduced k same) m ((reduced_at_place (word_at words s ++ a ∷ []) q t).1 g)
+          suffix : (x : ℕ) (w : List ℕ) → x ∷ w ≡ word_at words i ++ a ∷ [] → IsReduced k same w
+          suffix x w f = let d = f ∙ whole in let m : word_at words s ++ a ∷ [] ≡ w = cc in subst (IsReduced k same) m ((reduced_at_place (word_at words s ++ a ∷ []) q t).1 g)
 
   -- a letter alone is a left side where it is not listed
   pub letter_rule : (a r : ℕ) → a < k → IsRight same words 0 a r → IsRule k same words (a ∷ []) r ↔ ¬ (word_at words r ≡ a ∷ [])
@@ -77,7 +77,7 @@ module _ (k : ℕ) (same : List ℕ → List ℕ → Type 0) (words : List (List
       from n = record {
         over = (ha, tt);
         unreduced = λ d. n ((reduced_at_place (a ∷ []) r p).0 d);
-        front = λ w x f. subst (IsReduced k same) (sym ((last_letter_is_one w [] x a f).0)) (empty_is_reduced k same);
-        back = λ x w f. let m : [] ≡ w = cc in subst (IsReduced k same) m (empty_is_reduced k same);
+        prefix = λ w x f. subst (IsReduced k same) (sym ((last_letter_is_one w [] x a f).0)) (empty_is_reduced k same);
+        suffix = λ x w f. let m : [] ≡ w = cc in subst (IsReduced k same) m (empty_is_reduced k same);
         place = p;
       }

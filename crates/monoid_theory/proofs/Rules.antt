@@ -4,7 +4,7 @@ use Rattle.language_theory.specs.Words.{Over, ◌⊏◌, word_at, IsFactor}
 use Rattle.language_theory.specs.Congruence.{IsEquivalence}
 use Rattle.language_theory.specs.Representatives.{IsPlaceOf, AreRepresentatives, IsReduced}
 use Rattle.monoid_theory.specs.Presentation.{IsRule, AreRules, rule_at, IsReplacement}
-use Rattle.language_theory.proofs.Shortlex.{strong_induction, over_append, over_front, over_back, last_letter, last_letter_is_one, same_word_or_not, shortlex_trichotomy, smaller_with_word, shortlex_before}
+use Rattle.language_theory.proofs.Shortlex.{strong_induction, over_append, over_prefix, over_suffix, last_letter, last_letter_is_one, same_word_or_not, shortlex_trichotomy, smaller_with_word, shortlex_before}
 use Rattle.language_theory.proofs.Representatives.{reduced_is_listed, listed_is_reduced, empty_is_reduced}
 
 module _ (k : ℕ) (same : List ℕ → List ℕ → Type 0) (words : List (List ℕ)) (e : IsEquivalence k same) (l : AreRepresentatives k same words) where
@@ -45,17 +45,17 @@ module _ (k : ℕ) (same : List ℕ → List ℕ → Type 0) (words : List (List
       by : ((b ∷ v) ≡ []) ⊎ ((w : List ℕ) × (a : ℕ) × (b ∷ v ≡ w ++ a ∷ [])) → IsReduced k same v ⊎ ¬ IsReduced k same v → HasRule (b ∷ v)
       by (inl f) d = cc
       by (inr (w, a, f)) (inr d) = subst HasRule (ap (λ (x : List ℕ). b ∷ x) (append-nil v)) (has_rule_longer (b ∷ []) v [] (shorter (length v) (omega arith) v refl o.1 d))
-      by (inr (w, a, f)) (inl d) = front (reduced_or_not w ow)
+      by (inr (w, a, f)) (inl d) = prefix (reduced_or_not w ow)
         where
           ow : Over k w
-          ow = over_front k w (a ∷ []) (subst (Over k) f o)
+          ow = over_prefix k w (a ∷ []) (subst (Over k) f o)
 
           less : length w < n
           less = let q = ap length f in let m = length-append w (a ∷ []) in omega arith
 
-          front : IsReduced k same w ⊎ ¬ IsReduced k same w → HasRule (b ∷ v)
-          front (inr g) = subst HasRule (sym f) (has_rule_longer [] w (a ∷ []) (shorter (length w) less w refl ow g))
-          front (inl g) = (b ∷ v, (l.place (b ∷ v) o).0, record { over = o; unreduced = u; front = without_last; back = without_first; place = (l.place (b ∷ v) o).1 }, ([], [], append-nil (b ∷ v)))
+          prefix : IsReduced k same w ⊎ ¬ IsReduced k same w → HasRule (b ∷ v)
+          prefix (inr g) = subst HasRule (sym f) (has_rule_longer [] w (a ∷ []) (shorter (length w) less w refl ow g))
+          prefix (inl g) = (b ∷ v, (l.place (b ∷ v) o).0, record { over = o; unreduced = u; prefix = without_last; suffix = without_first; place = (l.place (b ∷ v) o).1 }, ([], [], append-nil (b ∷ v)))
             where
               without_last : (x : List ℕ) (y : ℕ) → x ++ y ∷ [] ≡ b ∷ v → IsReduced k same x
               without_last x y q = subst (IsReduced k same) (sym ((last_letter_is_one x w y a (q ∙ f)).0)) g
@@ -87,5 +87,5 @@ module _ (k : ℕ) (same : List ℕ → List ℕ → Type 0) (words : List (List
   pub replacement_over : (u v : List ℕ) → Over k u → IsReplacement words rules u v → Over k v
   replacement_over u v o m =
       let whole = subst (Over k) m.holds o in
-      let back = over_back k m.before ((rule_at rules m.rule).0 ++ m.behind) whole in
-      subst (Over k) (sym m.gives) (over_append k m.before (word_at words (rule_at rules m.rule).1 ++ m.behind) (over_front k m.before ((rule_at rules m.rule).0 ++ m.behind) whole) (over_append k (word_at words (rule_at rules m.rule).1) m.behind (l.over (rule_at rules m.rule).1 (r.each m.rule m.within).place.within) (over_back k (rule_at rules m.rule).0 m.behind back)))
+      let suffix = over_suffix k m.before ((rule_at rules m.rule).0 ++ m.behind) whole in
+      subst (Over k) (sym m.gives) (over_append k m.before (word_at words (rule_at rules m.rule).1 ++ m.behind) (over_prefix k m.before ((rule_at rules m.rule).0 ++ m.behind) whole) (over_append k (word_at words (rule_at rules m.rule).1) m.behind (l.over (rule_at rules m.rule).1 (r.each m.rule m.within).place.within) (over_suffix k (rule_at rules m.rule).0 m.behind suffix)))

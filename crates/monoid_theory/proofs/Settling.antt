@@ -2,7 +2,7 @@
 use Rattle.std.proofs.Common.{◌≡◌, ◌↔◌, inl, inr, ℕ, ◌+◌, ◌-◌, ◌*◌, ◌≤◌, List, ◌++◌, subst, arith}
 use Rattle.std.proofs.Math.Nat.{mul-le-mul_left}
 use Rattle.language_theory.specs.Words.{Over, power}
-use Rattle.language_theory.specs.Languages.{OneOf}
+use Rattle.language_theory.specs.Languages.{ExactlyOne}
 use Rattle.language_theory.specs.Congruence.{Syntactic}
 use Rattle.language_theory.specs.Representatives.{AreRepresentatives}
 use Rattle.monoid_theory.specs.Separation.{Separates}
@@ -28,7 +28,7 @@ module _ (k : ℕ) (L : List ℕ → Type 0) (u x v : List ℕ) (ou : Over k u) 
       second : L (u ++ (power (i + 1) x ++ v)) ↔ L (u ++ (power ((i + 1) + n * p) x ++ v))
       second = at (i + 1) (omega arith)
 
-      by : OneOf (L (u ++ (power i x ++ v))) (L (u ++ (power (i + 1) x ++ v))) → (a b : ℕ) × (n ≤ a) × (n ≤ b) × L (u ++ (power a x ++ v)) × ¬ L (u ++ (power b x ++ v))
+      by : ExactlyOne (L (u ++ (power i x ++ v))) (L (u ++ (power (i + 1) x ++ v))) → (a b : ℕ) × (n ≤ a) × (n ≤ b) × L (u ++ (power a x ++ v)) × ¬ L (u ++ (power b x ++ v))
       by (inl (y, z)) = (i + n * p, (i + 1) + n * p, (let l = far in omega arith), (let l = far in omega arith), first.0 y, λ w. z (second.1 w))
       by (inr (y, z)) = ((i + 1) + n * p, i + n * p, (let l = far in omega arith), (let l = far in omega arith), second.0 z, λ w. y (first.1 w))
 

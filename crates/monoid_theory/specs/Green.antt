@@ -3,12 +3,12 @@ use Rattle.std.specs.Prelude.{◌++◌, ℕ, List}
 use Rattle.language_theory.specs.Words.{Over}
 
 -- s is in the right ideal of t: it is t x for some x
-abbrev pub IsInRight : ℕ → (List ℕ → List ℕ → Type 0) → List ℕ → List ℕ → Type 0
-IsInRight k same s t = (x : List ℕ) × Over k x × same s (t ++ x)
+abbrev pub IsInRightIdeal : ℕ → (List ℕ → List ℕ → Type 0) → List ℕ → List ℕ → Type 0
+IsInRightIdeal k same s t = (x : List ℕ) × Over k x × same s (t ++ x)
 
 -- s is in the left ideal of t: it is x t for some x
-abbrev pub IsInLeft : ℕ → (List ℕ → List ℕ → Type 0) → List ℕ → List ℕ → Type 0
-IsInLeft k same s t = (x : List ℕ) × Over k x × same s (x ++ t)
+abbrev pub IsInLeftIdeal : ℕ → (List ℕ → List ℕ → Type 0) → List ℕ → List ℕ → Type 0
+IsInLeftIdeal k same s t = (x : List ℕ) × Over k x × same s (x ++ t)
 
 -- s is in the two-sided ideal of t: it is x t y for some x and y
 abbrev pub IsInIdeal : ℕ → (List ℕ → List ℕ → Type 0) → List ℕ → List ℕ → Type 0
@@ -16,11 +16,11 @@ IsInIdeal k same s t = (x y : List ℕ) × Over k x × Over k y × same s (x ++ 
 
 -- each is in the right ideal of the other
 abbrev pub IsR : ℕ → (List ℕ → List ℕ → Type 0) → List ℕ → List ℕ → Type 0
-IsR k same s t = IsInRight k same s t × IsInRight k same t s
+IsR k same s t = IsInRightIdeal k same s t × IsInRightIdeal k same t s
 
 -- each is in the left ideal of the other
 abbrev pub IsL : ℕ → (List ℕ → List ℕ → Type 0) → List ℕ → List ℕ → Type 0
-IsL k same s t = IsInLeft k same s t × IsInLeft k same t s
+IsL k same s t = IsInLeftIdeal k same s t × IsInLeftIdeal k same t s
 
 -- each is in the two-sided ideal of the other
 abbrev pub IsJ : ℕ → (List ℕ → List ℕ → Type 0) → List ℕ → List ℕ → Type 0

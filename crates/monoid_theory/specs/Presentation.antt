@@ -7,8 +7,8 @@ use Rattle.language_theory.specs.Representatives.{IsPlaceOf, IsReduced}
 pub record IsRule (k : ℕ) (same : List ℕ → List ℕ → Type 0) (words : List (List ℕ)) (left : List ℕ) (right : ℕ) : Type 0 where
   pub over : Over k left
   pub unreduced : ¬ IsReduced k same left
-  pub front : (w : List ℕ) (a : ℕ) → w ++ a ∷ [] ≡ left → IsReduced k same w
-  pub back : (a : ℕ) (w : List ℕ) → a ∷ w ≡ left → IsReduced k same w
+  pub prefix : (w : List ℕ) (a : ℕ) → w ++ a ∷ [] ≡ left → IsReduced k same w
+  pub suffix : (a : ℕ) (w : List ℕ) → a ∷ w ≡ left → IsReduced k same w
   pub place : IsPlaceOf same words left right
 
 -- the rule at a place of a list of rules: its left side, and the place of its right side

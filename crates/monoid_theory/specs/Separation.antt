@@ -1,12 +1,12 @@
 -- Contexts that tell two words apart. Which context stands for all, the least one, is this project's choice.
 use Rattle.std.specs.Prelude.{◌≡◌, ◌<◌, ◌++◌, ℕ, List}
 use Rattle.language_theory.specs.Words.{Over}
-use Rattle.language_theory.specs.Languages.{OneOf, IsLeastWord}
+use Rattle.language_theory.specs.Languages.{ExactlyOne, IsLeastWord}
 use Rattle.language_theory.specs.ShortlexGraph.{Graph, walk}
 
 -- between u and v exactly one of s and t gives a word of L
 abbrev pub Separates : (List ℕ → Type 0) → List ℕ → List ℕ → List ℕ → List ℕ → Type 0
-Separates L s t u v = OneOf (L (u ++ (s ++ v))) (L (u ++ (t ++ v)))
+Separates L s t u v = ExactlyOne (L (u ++ (s ++ v))) (L (u ++ (t ++ v)))
 
 -- u, together with some v, separates s and t
 abbrev pub CanSeparate : ℕ → (List ℕ → Type 0) → List ℕ → List ℕ → List ℕ → Type 0

@@ -1,11 +1,11 @@
 //! Laws of Green's relations.
 ghost use Rattle.std.specs.Prelude.{◌≡◌, ◌<◌, ◌↔◌, ◌++◌, ℕ, List, length};
 ghost use Rattle.language_theory.specs.Words.{Over, word_at};
-ghost use Rattle.language_theory.specs.Congruence.{IsEquivalence, IsRightCongruence, IsCongruence};
+ghost use Rattle.language_theory.specs.Congruence.{IsEquivalence, IsRightCongruence, IsCongruence, Agree};
 ghost use Rattle.language_theory.specs.Representatives.{AreRepresentatives};
 ghost use Rattle.language_theory.specs.ShortlexGraph.{Graph, walk};
 ghost use Rattle.monoid_theory.specs.Products.{IsRightGraph, IsLeftGraph};
-ghost use Rattle.monoid_theory.specs.Green.{IsInRight, IsInLeft, IsInIdeal, IsR, IsL, IsJ, IsH, IsD, IsRTrivial, IsLTrivial, IsJTrivial};
+ghost use Rattle.monoid_theory.specs.Green.{IsInRightIdeal, IsInLeftIdeal, IsInIdeal, IsR, IsL, IsJ, IsH, IsD, IsRTrivial, IsLTrivial, IsJTrivial};
 
 use language_theory::language::Relation;
 
@@ -49,24 +49,24 @@ pub fn trivial_on_both_sides<R: Relation>()
 /// The ideals of an element are what walks from it lead to: in the right Cayley graph, in the left one, in one and
 /// then the other. For right ideals a right congruence is enough.
 pub fn ideals_are_walks<R: Relation>()
-    ensures right { (k : ℕ) (words : List (List ℕ)) → IsRightCongruence k R.same → AreRepresentatives k R.same words → (d : Graph) → IsRightGraph k R.same words d → (i j : ℕ) → i < length words → j < length words → IsInRight k R.same (word_at words j) (word_at words i) ↔ ((x : List ℕ) × Over k x × (walk d i x ≡ j)) }
-    ensures left { (k : ℕ) (words : List (List ℕ)) → IsCongruence k R.same → AreRepresentatives k R.same words → (e : Graph) → IsLeftGraph k R.same words e → (i j : ℕ) → i < length words → j < length words → IsInLeft k R.same (word_at words j) (word_at words i) ↔ ((x : List ℕ) × Over k x × (walk e i x ≡ j)) }
+    ensures right { (k : ℕ) (words : List (List ℕ)) → IsRightCongruence k R.same → AreRepresentatives k R.same words → (d : Graph) → IsRightGraph k R.same words d → (i j : ℕ) → i < length words → j < length words → IsInRightIdeal k R.same (word_at words j) (word_at words i) ↔ ((x : List ℕ) × Over k x × (walk d i x ≡ j)) }
+    ensures left { (k : ℕ) (words : List (List ℕ)) → IsCongruence k R.same → AreRepresentatives k R.same words → (e : Graph) → IsLeftGraph k R.same words e → (i j : ℕ) → i < length words → j < length words → IsInLeftIdeal k R.same (word_at words j) (word_at words i) ↔ ((x : List ℕ) × Over k x × (walk e i x ≡ j)) }
     ensures two_sided { (k : ℕ) (words : List (List ℕ)) → IsCongruence k R.same → AreRepresentatives k R.same words → (d e : Graph) → IsRightGraph k R.same words d → IsLeftGraph k R.same words e → (i j : ℕ) → i < length words → j < length words → IsInIdeal k R.same (word_at words j) (word_at words i) ↔ ((x y : List ℕ) × Over k x × Over k y × (walk e (walk d i x) y ≡ j)) }
 {}
 
 /// Relations that agree on words over k letters have the same Green's relations.
 pub fn agreeing_relations_have_the_same_ideals<R: Relation, S: Relation>()
-    ensures right { (k : ℕ) → ((u v : List ℕ) → Over k u → Over k v → R.same u v ↔ S.same u v) → (s t : List ℕ) → Over k s → Over k t → IsR k R.same s t → IsR k S.same s t }
-    ensures left { (k : ℕ) → ((u v : List ℕ) → Over k u → Over k v → R.same u v ↔ S.same u v) → (s t : List ℕ) → Over k s → Over k t → IsL k R.same s t → IsL k S.same s t }
-    ensures two_sided { (k : ℕ) → ((u v : List ℕ) → Over k u → Over k v → R.same u v ↔ S.same u v) → (s t : List ℕ) → Over k s → Over k t → IsJ k R.same s t → IsJ k S.same s t }
-    ensures both { (k : ℕ) → ((u v : List ℕ) → Over k u → Over k v → R.same u v ↔ S.same u v) → (s t : List ℕ) → Over k s → Over k t → IsH k R.same s t → IsH k S.same s t }
-    ensures product { (k : ℕ) → ((u v : List ℕ) → Over k u → Over k v → R.same u v ↔ S.same u v) → (s t : List ℕ) → Over k s → Over k t → IsD k R.same s t → IsD k S.same s t }
+    ensures right { (k : ℕ) → Agree k R.same S.same → Agree k (IsR k R.same) (IsR k S.same) }
+    ensures left { (k : ℕ) → Agree k R.same S.same → Agree k (IsL k R.same) (IsL k S.same) }
+    ensures two_sided { (k : ℕ) → Agree k R.same S.same → Agree k (IsJ k R.same) (IsJ k S.same) }
+    ensures both { (k : ℕ) → Agree k R.same S.same → Agree k (IsH k R.same) (IsH k S.same) }
+    ensures product { (k : ℕ) → Agree k R.same S.same → Agree k (IsD k R.same) (IsD k S.same) }
 {}
 
 /// Where the elements are numbers, the values of words, an ideal of the value of s is what products with it have as
 /// values. For right ideals it is enough that to have one value is a right congruence.
 pub fn ideals_of_values()
-    ensures right { (k : ℕ) (value : List ℕ → ℕ) → IsRightCongruence k (λ u v. value u ≡ value v) → (s t : List ℕ) → Over k s → IsInRight k (λ u v. value u ≡ value v) t s ↔ ((w y : List ℕ) × Over k w × Over k y × (value w ≡ value s) × (value (w ++ y) ≡ value t)) }
-    ensures left { (k : ℕ) (value : List ℕ → ℕ) → IsCongruence k (λ u v. value u ≡ value v) → (s t : List ℕ) → Over k s → IsInLeft k (λ u v. value u ≡ value v) t s ↔ ((w x : List ℕ) × Over k w × Over k x × (value w ≡ value s) × (value (x ++ w) ≡ value t)) }
+    ensures right { (k : ℕ) (value : List ℕ → ℕ) → IsRightCongruence k (λ u v. value u ≡ value v) → (s t : List ℕ) → Over k s → IsInRightIdeal k (λ u v. value u ≡ value v) t s ↔ ((w y : List ℕ) × Over k w × Over k y × (value w ≡ value s) × (value (w ++ y) ≡ value t)) }
+    ensures left { (k : ℕ) (value : List ℕ → ℕ) → IsCongruence k (λ u v. value u ≡ value v) → (s t : List ℕ) → Over k s → IsInLeftIdeal k (λ u v. value u ≡ value v) t s ↔ ((w x : List ℕ) × Over k w × Over k x × (value w ≡ value s) × (value (x ++ w) ≡ value t)) }
     ensures two_sided { (k : ℕ) (value : List ℕ → ℕ) → IsCongruence k (λ u v. value u ≡ value v) → (s t : List ℕ) → Over k s → IsInIdeal k (λ u v. value u ≡ value v) t s ↔ ((w x y : List ℕ) × Over k w × Over k x × Over k y × (value w ≡ value s) × (value (x ++ (w ++ y)) ≡ value t)) }
 {}

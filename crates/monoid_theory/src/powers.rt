@@ -1,7 +1,7 @@
 //! Laws of the powers of a word.
 ghost use Rattle.std.specs.Prelude.{◌≡◌, ◌<◌, ◌≤◌, ◌⊎◌, ◌+◌, ◌%◌, ◌↔◌, ℕ, List};
 ghost use Rattle.language_theory.specs.Words.{Over, power};
-ghost use Rattle.language_theory.specs.Congruence.{IsRightCongruence, IsCongruence, Syntactic};
+ghost use Rattle.language_theory.specs.Congruence.{IsRightCongruence, IsCongruence, Syntactic, Agree};
 ghost use Rattle.language_theory.specs.Representatives.{AreRepresentatives};
 ghost use Rattle.language_theory.specs.Nerode.{MinimalAutomaton, IsMinimal};
 ghost use Rattle.monoid_theory.specs.Separation.{Separates, IsSeparation};
@@ -55,6 +55,6 @@ pub fn aperiodic_powers_settle<L: Language>()
 
 /// Relations that agree on words over k letters have the same indices and periods.
 pub fn agreeing_relations_have_the_same_powers<R: Relation, S: Relation>()
-    ensures index { (k : ℕ) → ((u v : List ℕ) → Over k u → Over k v → R.same u v ↔ S.same u v) → (x : List ℕ) (i p : ℕ) → Over k x → IsIndexAndPeriod R.same x i p → IsIndexAndPeriod S.same x i p }
-    ensures aperiodic { (k : ℕ) → ((u v : List ℕ) → Over k u → Over k v → R.same u v ↔ S.same u v) → IsAperiodic k R.same → IsAperiodic k S.same }
+    ensures index { (k : ℕ) → Agree k R.same S.same → (x : List ℕ) (i p : ℕ) → Over k x → IsIndexAndPeriod R.same x i p → IsIndexAndPeriod S.same x i p }
+    ensures aperiodic { (k : ℕ) → Agree k R.same S.same → IsAperiodic k R.same → IsAperiodic k S.same }
 {}

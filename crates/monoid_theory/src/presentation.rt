@@ -1,7 +1,7 @@
 //! Laws of the rewriting rules of a congruence.
 ghost use Rattle.std.specs.Prelude.{◌≡◌, ◌<◌, ◌⊎◌, ◌↔◌, ◌++◌, ◌∷◌, [], ℕ, List, length};
 ghost use Rattle.language_theory.specs.Words.{Over, ◌⊏◌, word_at, IsFactor};
-ghost use Rattle.language_theory.specs.Congruence.{IsEquivalence, IsCongruence};
+ghost use Rattle.language_theory.specs.Congruence.{IsEquivalence, IsCongruence, Agree};
 ghost use Rattle.language_theory.specs.Representatives.{IsPlaceOf, AreRepresentatives, IsReduced};
 ghost use Rattle.language_theory.specs.Links.{IsSuffixLink};
 ghost use Rattle.monoid_theory.specs.Products.{IsRight};
@@ -51,5 +51,5 @@ pub fn rewriting_goes_on()
 
 /// Relations that agree on words over k letters have the same rules.
 pub fn agreeing_relations_have_the_same_rules<R: Relation, S: Relation>()
-    ensures { (k : ℕ) → ((u v : List ℕ) → Over k u → Over k v → R.same u v ↔ S.same u v) → (words : List (List ℕ)) → ((i : ℕ) → i < length words → Over k (word_at words i)) → (rules : List (List ℕ × ℕ)) → AreRules k R.same words rules → AreRules k S.same words rules }
+    ensures { (k : ℕ) → Agree k R.same S.same → (words : List (List ℕ)) → ((i : ℕ) → i < length words → Over k (word_at words i)) → (rules : List (List ℕ × ℕ)) → AreRules k R.same words rules → AreRules k S.same words rules }
 {}
