@@ -7,7 +7,9 @@ use Rattle.std.proofs.lemmas.List.{get_or_append_left, get_or_push}
 use Rattle.language_theory.specs.Words.{Over, word_at}
 use Rattle.language_theory.specs.Representatives.{HasMoreClasses}
 use Rattle.language_theory.proofs.Shortlex.{over_last}
-use Rattle.exploration.specs.States.{AreNumbered, Agree, IsSameMachine, AreKept, IsNext, IsCounted}
+use Rattle.language_theory.specs.Congruence.{Agree}
+use Rattle.language_theory.proofs.Representatives.{agreeing_classes}
+use Rattle.exploration.specs.States.{AreNumbered, IsSameMachine, AreKept, IsNext, IsCounted}
 use Rattle.exploration.specs.Search.{IsBreadthFirst, AreNodes, IsSearched}
 use Rattle.exploration.proofs.Places.{row_within, place_before_or_last}
 use Rattle.exploration.proofs.BreadthFirst.{search_finds, search_meets}
@@ -99,14 +101,7 @@ search_has_classes k same number count targets limit now h l = (
 
 -- relations that agree have as many classes
 pub agree_classes : (k : ℕ) (same later : List ℕ → List ℕ → Type 0) (limit : ℕ) → Agree k same later → HasMoreClasses k later limit → HasMoreClasses k same limit
-agree_classes k same later limit agree (words, many, apart) = (
-  words,
-  many,
-  record {
-    over = apart.over;
-    apart = λ i j hij hj alike. apart.apart i j hij hj ((agree.both (word_at words i) (word_at words j) (apart.over i (omega arith)) (apart.over j hj)).0 alike);
-  },
-)
+agree_classes k same later limit agree = ((agreeing_classes k same later agree).both limit).1
 
 -- the same relation in a later machine has as many classes
 pub machine_classes : (k l : ℕ) (same later : List ℕ → List ℕ → Type 0) (limit : ℕ) → IsSameMachine k l same later → HasMoreClasses l later limit → HasMoreClasses k same limit

@@ -6,20 +6,15 @@ use Rattle.std.proofs.lemmas.Bool.Decides.{Decides-eqb}
 use Rattle.std.proofs.lemmas.List.Sums.{passes_at_first}
 use Rattle.indexmap.specs.IndexSet.{insert_key}
 use Rattle.language_theory.specs.Words.{Over}
-use Rattle.language_theory.specs.Congruence.{moved}
 use Rattle.std.proofs.Common.{true}
 use Rattle.std.proofs.lemmas.List.Elements.{All-get_or}
 use Rattle.language_theory.proofs.Shortlex.{over_last}
+use Rattle.language_theory.proofs.Congruences.{moved_append, moved_within}
 use Rattle.language_theory.proofs.Graphs.{row_place}
 use Rattle.exploration.specs.States.{AreKept, IsNext}
 use Rattle.exploration.specs.Table.{Table, IsTable, image, state_of, number_of}
 use Rattle.exploration.proofs.Interning.{insert_keeps, insert_numbers, insert_reached}
 use Rattle.exploration.specs.NumberedKeys.{position_is}
-
--- where a word with a letter behind it takes a point
-pub moved_last : (f : ℕ → ℕ → ℕ) (p : ℕ) (w : List ℕ) (a : ℕ) → moved f p (w ++ a ∷ []) ≡ f (moved f p w) a
-moved_last f p [] a = refl
-moved_last f p (b ∷ w) a = moved_last f (f p b) w a
 
 -- the number of a word's state leads back to the state
 pub state_at : (t : Table) (w : List ℕ) (n : ℕ) → number_of t w ≡ Some n → state_of t w ≡ slice_index t.seen n
@@ -46,7 +41,7 @@ pub seen_next : (t : Table) (q a : ℕ) → IsNext t.letters (number_of t) (numb
 seen_next t q a = record {
   leads = λ w o e.
       let to = image t (slice_index t.seen q) a in
-      let at : state_of t (w ++ a ∷ []) ≡ to = moved_last (image t) t.start w a ∙ ap (λ (p : ℕ). image t p a) (state_at t w q e) in
+      let at : state_of t (w ++ a ∷ []) ≡ to = moved_append (image t) t.start w (a ∷ []) ∙ ap (λ (p : ℕ). image t p a) (state_at t w q e) in
       subst (λ (p : ℕ). position (nat_eq p) (insert_key nat_eq t.seen to) ≡ Some (position_or_len (nat_eq to) t.seen)) (sym at) (insert_numbers nat_eq Decides-eqb t.seen to);
 }
 
@@ -54,14 +49,13 @@ seen_next t q a = record {
 pub next_reached : (t : Table) (q a : ℕ) → IsTable t → q < length t.seen → a < t.letters → (w : List ℕ) × Over t.letters w × (state_of t w ≡ image t (slice_index t.seen q) a)
 next_reached t q a h hq ha =
     let (w, o, e) = h.seen.reached q hq in
-    (w ++ a ∷ [], over_last t.letters w a o ha, moved_last (image t) t.start w a ∙ ap (λ (p : ℕ). image t p a) (state_at t w q e))
+    (w ++ a ∷ [], over_last t.letters w a o ha, moved_append (image t) t.start w (a ∷ []) ∙ ap (λ (p : ℕ). image t p a) (state_at t w q e))
 
 -- a seen state is a state
 pub seen_within : (t : Table) (q : ℕ) → IsTable t → q < length t.seen → slice_index t.seen q < t.states
 seen_within t q h hq =
     let (w, o, e) = h.seen.reached q hq in
-    subst (λ (p : ℕ). p < t.states) (state_at t w q e) (walks t.start w h.start o)
+    subst (λ (p : ℕ). p < t.states) (state_at t w q e) (moved_within t.letters t.states (image t) within t.start w h.start o)
   where
-    walks : (p : ℕ) (w : List ℕ) → p < t.states → Over t.letters w → moved (image t) p w < t.states
-    walks p [] hp o = hp
-    walks p (a ∷ w) hp o = walks (image t p a) w (All-get_or (λ q. q < t.states) t.targets (p * t.letters + a) 0 (rw h.long (row_place p a t.states t.letters hp o.0)) h.within) o.1
+    within : (p a : ℕ) → p < t.states → a < t.letters → image t p a < t.states
+    within p a hp ha = All-get_or (λ q. q < t.states) t.targets (p * t.letters + a) 0 (rw h.long (row_place p a t.states t.letters hp ha)) h.within

@@ -9,7 +9,8 @@ use Rattle.language_theory.proofs.Shortlex.{over_prefix, over_suffix, shortlex_i
 use Rattle.language_theory.proofs.Graphs.{row_place, walk_append, node_within}
 use Rattle.language_theory.proofs.ShortlexCriterion.{shortlex_by_letters}
 use Rattle.language_theory.proofs.Numbers.{pigeonhole}
-use Rattle.exploration.specs.States.{AreNumbered, Agree, IsSameMachine}
+use Rattle.language_theory.specs.Congruence.{Agree}
+use Rattle.exploration.specs.States.{AreNumbered, IsSameMachine}
 use Rattle.exploration.specs.Search.{IsBreadthFirst, AreNodes, IsSearched}
 use Rattle.exploration.proofs.Places.{row_within}
 
@@ -90,7 +91,7 @@ whole_graph k same later number count targets agree now h whole = record {
   graph = record {
     letters = refl;
     shortlex = search_is_shortlex k h.words targets h.first whole;
-    nodes = λ u v ou ov. (λ e. (agree.both u v ou ov).1 (forward u v ou ov e), λ s. back u v ou ov ((agree.both u v ou ov).0 s));
+    nodes = record { both = λ u v ou ov. (λ e. (agree.both u v ou ov).1 (forward u v ou ov e), λ s. back u v ou ov ((agree.both u v ou ov).0 s)) };
   };
   numbers = numbers;
 }
@@ -127,4 +128,4 @@ not_more_than_nodes k same number g limit h small (words, many, apart) = omega (
         omega (arith, s.long, place.1.within)
 
     other : (i j : ℕ) → i < j → j < length words → node g (word_at words i) ≢ node g (word_at words j)
-    other i j hij hj e = apart.apart i j hij hj ((h.graph.nodes (word_at words i) (word_at words j) (apart.over i (omega arith)) (apart.over j hj)).0 e)
+    other i j hij hj e = apart.apart i j hij hj ((h.graph.nodes.both (word_at words i) (word_at words j) (apart.over i (omega arith)) (apart.over j hj)).0 e)

@@ -2,10 +2,10 @@
 use Rattle.std.proofs.Common.{◌≡◌, ◌≢◌, ℕ, zero, suc, ◌<◌, ◌≤◌, ◌⊎◌, inl, inr, ◌↔◌, List, [], ◌∷◌, ◌++◌, length, refl, ap, sym, subst, ◌∙◌, arith}
 use Rattle.std.proofs.lemmas.Bool.{cases_lt}
 use Rattle.language_theory.specs.Words.{Over, word_at, IsFactor, ◌⊏◌}
-use Rattle.language_theory.specs.Representatives.{IsPlaceOf, AreRepresentatives, IsReduced, AreApart, HasMoreClasses}
+use Rattle.language_theory.specs.Representatives.{IsPlaceOf, AreRepresentatives, IsReduced, AreApart, HasMoreClasses, HaveAsManyClasses}
 use Rattle.language_theory.specs.Congruence.{IsEquivalence, IsRightCongruence, IsCongruence, Agree}
 use Rattle.language_theory.proofs.Shortlex.{shortlex_irrefl, shortlex_asymm, shortlex_trichotomy, none_before_nil, neither_smaller, smaller_with_word, shortlex_before, over_or_not, over_append, over_prefix, over_suffix}
-use Rattle.language_theory.proofs.Congruences.{right_congruence}
+use Rattle.language_theory.proofs.Congruences.{right_congruence, agree_turned}
 use Rattle.language_theory.proofs.Numbers.{pigeonhole, equal_or_not}
 
 -- a word has one place
@@ -199,6 +199,17 @@ module _ (k : ℕ) (same alike : List ℕ → List ℕ → Type 0) (a : Agree k 
 
   pub agreeing_lists_equal : (xs ys : List (List ℕ)) → IsEquivalence k alike → AreRepresentatives k same xs → AreRepresentatives k alike ys → xs ≡ ys
   agreeing_lists_equal xs ys q r s = one_list k alike xs ys q (agreeing_list xs r) s
+
+agreeing_more_classes : (k : ℕ) (same alike : List ℕ → List ℕ → Type 0) → Agree k same alike → (n : ℕ) → HasMoreClasses k same n → HasMoreClasses k alike n
+agreeing_more_classes k same alike a n (words, h, p) = (
+  words,
+  h,
+  record { over = p.over; apart = λ i j g l s. p.apart i j g l ((a.both (word_at words i) (word_at words j) (p.over i (omega arith)) (p.over j l)).1 s) },
+)
+
+-- and have as many classes
+pub agreeing_classes : (k : ℕ) (same alike : List ℕ → List ℕ → Type 0) → Agree k same alike → HaveAsManyClasses k same alike
+agreeing_classes k same alike a = record { both = λ n. (agreeing_more_classes k same alike a n, agreeing_more_classes k alike same (agree_turned k same alike a) n) }
 
 -- a prefix of a reduced word of a right congruence is reduced
 pub reduced_prefix : (k : ℕ) (same : List ℕ → List ℕ → Type 0) (u v : List ℕ) → IsRightCongruence k same → IsReduced k same (u ++ v) → IsReduced k same u

@@ -1,5 +1,5 @@
 -- The classes of a relation between words, each given by its least word (Froidure and Pin 1997: reduced words).
-use Rattle.std.specs.Prelude.{◌≡◌, ◌<◌, ℕ, List, length}
+use Rattle.std.specs.Prelude.{◌≡◌, ◌<◌, ◌↔◌, ℕ, List, length}
 use Rattle.language_theory.specs.Words.{Over, ◌⊏◌, word_at}
 
 -- the listed word at place i is the only one related to w
@@ -28,3 +28,7 @@ pub record AreApart (k : ℕ) (same : List ℕ → List ℕ → Type 0) (words :
 -- there are more than n classes
 abbrev pub HasMoreClasses : ℕ → (List ℕ → List ℕ → Type 0) → ℕ → Type 0
 HasMoreClasses k same n = (words : List (List ℕ)) × (n < length words) × AreApart k same words
+
+-- two relations have the same number of classes
+pub record HaveAsManyClasses (k : ℕ) (same other : List ℕ → List ℕ → Type 0) : Type 0 where
+  pub both : (n : ℕ) → HasMoreClasses k same n ↔ HasMoreClasses k other n

@@ -2,7 +2,7 @@
 
 ghost use Rattle.std.specs.Prelude.{◌≡◌, ◌<◌, ◌++◌, ◌↔◌, ◌⊎◌, ℕ, List, length};
 ghost use Rattle.language_theory.specs.Words.{Over, IsFactor, word_at};
-ghost use Rattle.language_theory.specs.Representatives.{AreRepresentatives, IsReduced, HasMoreClasses};
+ghost use Rattle.language_theory.specs.Representatives.{AreRepresentatives, IsReduced, HasMoreClasses, HaveAsManyClasses};
 ghost use Rattle.language_theory.specs.Links.{IsPrefixLink, IsSuffixLink};
 ghost use Rattle.language_theory.specs.Congruence.{IsEquivalence, IsRightCongruence, IsCongruence, Agree};
 
@@ -13,9 +13,10 @@ pub fn one_list_of_representatives<R: Relation>()
     ensures { (k : ℕ) (xs ys : List (List ℕ)) → IsEquivalence k R.same → AreRepresentatives k R.same xs → AreRepresentatives k R.same ys → xs ≡ ys }
 {}
 
-/// Relations that agree on the words over k letters have the same lists of least representatives.
+/// Relations that agree on the words over k letters have the same lists of least representatives, and as many classes.
 pub fn agreeing_relations_have_one_list<R: Relation, S: Relation>()
-    ensures { (k : ℕ) (words : List (List ℕ)) → Agree k R.same S.same → AreRepresentatives k R.same words → AreRepresentatives k S.same words }
+    ensures classes { (k : ℕ) → Agree k R.same S.same → HaveAsManyClasses k R.same S.same }
+    ensures list { (k : ℕ) (words : List (List ℕ)) → Agree k R.same S.same → AreRepresentatives k R.same words → AreRepresentatives k S.same words }
 {}
 
 /// The listed words are the reduced ones.
