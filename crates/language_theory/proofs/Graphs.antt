@@ -1,13 +1,14 @@
 -- The laws of shortlex graphs.
-use Rattle.std.proofs.Common.{◌≡◌, ℕ, zero, suc, ◌+◌, ◌*◌, ◌/◌, ◌%◌, ◌<◌, ◌≤◌, inl, inr, ◌↔◌, List, [], ◌∷◌, ◌++◌, length, slice_index, refl, ap, sym, subst, ◌∙◌, arith, mul-le-mul_left, mul-le-mul_right}
+use Rattle.std.proofs.Common.{◌≡◌, ℕ, zero, suc, ◌+◌, ◌*◌, ◌/◌, ◌%◌, ◌<◌, ◌≤◌, ◌⊎◌, inl, inr, ◌↔◌, List, [], ◌∷◌, ◌++◌, length, slice_index, refl, ap, sym, subst, ◌∙◌, arith, mul-le-mul_left, mul-le-mul_right}
 use Rattle.std.proofs.lemmas.List.{ext_get_or}
 use Rattle.std.proofs.lemmas.Nat.{div-add-mod'}
 use Rattle.std.proofs.lemmas.Bool.{cases_lt}
 use Rattle.language_theory.specs.Words.{Over, word_at, ◌⊏◌}
 use Rattle.language_theory.specs.Representatives.{AreRepresentatives, IsReduced}
-use Rattle.language_theory.specs.Congruence.{IsEquivalence, IsRightCongruence, Agree}
+use Rattle.language_theory.specs.Congruence.{IsEquivalence, IsRightCongruence, IsCongruence, Agree, MapsAlike}
+use Rattle.language_theory.specs.Languages.{IsLeastWord}
 use Rattle.language_theory.specs.ShortlexGraph.{Graph, target, walk, node, SameNode, IsGraph, IsShortlex, IsGraphOf}
-use Rattle.language_theory.proofs.Shortlex.{none_before_nil, over_last}
+use Rattle.language_theory.proofs.Shortlex.{none_before_nil, over_last, shortlex_trans}
 use Rattle.language_theory.proofs.Representatives.{reduced_is_listed, listed_is_reduced, reduced_prefix, one_list, agreeing_list, agreeing_equivalence}
 use Rattle.language_theory.proofs.Congruences.{agree_joined, moved_append, moved_within}
 
@@ -23,7 +24,7 @@ positive n zero p h = omega arith
 positive n (suc k) p h = omega arith
 
 -- the row of a place
-row_of : (p i a n k : ℕ) → i * k + a ≡ p → p < n * k → i < n
+pub row_of : (p i a n k : ℕ) → i * k + a ≡ p → p < n * k → i < n
 row_of p i a n k e h = elim (cases_lt i n) [
   | inl l ↦ l
   | inr l ↦ (let m : n * k ≤ i * k = mul-le-mul_right k l in omega arith)
@@ -76,6 +77,50 @@ module _ (g : Graph) (words : List (List ℕ)) (s : IsShortlex g words) where
       let (j, m, f) = reduced_is_listed g.letters (SameNode g) words s.least [] r in
       let at : j ≡ 0 = sym (s.leads j (let d = s.long in omega arith)) ∙ ap (node g) f in
       ap (word_at words) (sym at) ∙ f
+
+  -- of the nodes with a property, the first has the least word
+  pub first_node_least : (P : ℕ → Type 0) (i : ℕ) → i < g.size → P i → ((j : ℕ) → j < i → ¬ P j)
+    → IsLeastWord g.letters (λ w. P (node g w)) (word_at words i)
+  first_node_least P i h p before = record {
+    over = node_word_over i h;
+    holds = subst P (sym (s.leads i h)) p;
+    least = least;
+  }
+    where
+      least : (v : List ℕ) → Over g.letters v → P (node g v) → ¬ (v ⊏ word_at words i)
+      least v ov q b = elim (cases_lt (node g v) i) [
+        | inl l ↦ before (node g v) l q
+        | inr l ↦ node_word_least v ov (later (cases_lt i (node g v)) l)
+      ]
+        where
+          later : (i < node g v) ⊎ (node g v ≤ i) → i ≤ node g v → v ⊏ word_at words (node g v)
+          later (inl m) l =
+              let e = s.long in
+              let n = node_within g v s.graph ov in
+              shortlex_trans v (word_at words i) (word_at words (node g v)) b (s.least.rise i (node g v) m (omega arith))
+          later (inr m) l = subst (λ (j : ℕ). v ⊏ word_at words j) (let e : i ≡ node g v = omega arith in e) b
+
+  -- to lead to one node is a congruence where words that do so lead from every node to one node
+  pub congruence_by_nodes : IsCongruence g.letters (SameNode g)
+    ↔ ((u v : List ℕ) → Over g.letters u → Over g.letters v → SameNode g u v → MapsAlike g.size (target g) u v)
+  congruence_by_nodes = (to, from)
+    where
+      to : IsCongruence g.letters (SameNode g) → (u v : List ℕ) → Over g.letters u → Over g.letters v → SameNode g u v
+        → MapsAlike g.size (target g) u v
+      to c u v ou ov e i h =
+          let w = word_at words i in
+          let l = s.leads i h in
+          let there = c.left u v w ou ov (node_word_over i h) e in
+          ap (λ (j : ℕ). walk g j u) (sym l) ∙ sym (walk_append g 0 w u) ∙ there ∙ walk_append g 0 w v ∙ ap (λ (j : ℕ). walk g j v) l
+
+      from : ((u v : List ℕ) → Over g.letters u → Over g.letters v → SameNode g u v → MapsAlike g.size (target g) u v)
+        → IsCongruence g.letters (SameNode g)
+      from f = record {
+        equivalence = same_node_equivalence g;
+        right = (same_node_right g).right;
+        left = λ u v w ou ov ow e.
+          walk_append g 0 w u ∙ (f u v ou ov e (node g w) (node_within g w s.graph ow) ∙ sym (walk_append g 0 w v));
+      }
 
 -- ---- the graph of a relation
 

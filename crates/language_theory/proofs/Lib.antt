@@ -6,6 +6,7 @@ pub mod Representatives
 pub mod Congruences
 pub mod Links
 pub mod Graphs
+pub mod Nonempty
 pub mod ShortlexCriterion
 pub mod Quotients
 pub mod Minimal

@@ -27,6 +27,10 @@ node g w = walk g 0 w
 abbrev pub SameNode : Graph → List ℕ → List ℕ → Type 0
 SameNode g u v = node g u ≡ node g v
 
+-- a word that is not empty leads from the root to the node i
+abbrev pub LeadsNonempty : Graph → ℕ → List ℕ → Type 0
+LeadsNonempty g i w = ¬ (w ≡ []) × (node g w ≡ i)
+
 -- each node has a target among the nodes for each letter
 pub record IsGraph (g : Graph) : Type 0 where
   pub root : 0 < g.size

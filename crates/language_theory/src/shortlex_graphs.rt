@@ -1,11 +1,12 @@
 //! Laws of shortlex graphs and of their quotients.
 
-ghost use Rattle.std.specs.Prelude.{◌≡◌, ◌<◌, ◌++◌, ◌∷◌, ◌↔◌, [], ℕ, List, length, slice_index};
+ghost use Rattle.std.specs.Prelude.{◌≡◌, ◌<◌, ◌+◌, ◌*◌, ◌++◌, ◌∷◌, ◌↔◌, [], ℕ, List, length, slice_index};
 ghost use Rattle.language_theory.specs.Words.{Over, ◌⊏◌, word_at};
-ghost use Rattle.language_theory.specs.Congruence.{IsRightCongruence, Agree};
-ghost use Rattle.language_theory.specs.ShortlexGraph.{Graph, target, walk, node, SameNode, IsGraph, IsShortlex, IsGraphOf, IsNumbering, IsFirst, IsPartition, IsQuotient, AreFirstWords};
+ghost use Rattle.language_theory.specs.Congruence.{IsRightCongruence, IsCongruence, Agree, MapsAlike};
+ghost use Rattle.language_theory.specs.Languages.{IsLeastWord};
+ghost use Rattle.language_theory.specs.ShortlexGraph.{Graph, target, walk, node, SameNode, IsGraph, IsShortlex, IsGraphOf, IsNumbering, IsFirst, LeadsNonempty, IsPartition, IsQuotient, AreFirstWords};
 
-use crate::language::Relation;
+use crate::language::{Property, Relation};
 
 /// A walk goes on where the walk before it ends, stays among the nodes, and to lead to one node is a right congruence.
 pub fn walks_follow_words()
@@ -45,4 +46,43 @@ pub fn classes_have_first_nodes()
 pub fn quotients_are_shortlex_graphs()
     ensures shortlex { (g q : Graph) (words first : List (List ℕ)) (count : ℕ) (classes : List ℕ) → IsShortlex g words → IsPartition g count classes → IsQuotient g count classes q → AreFirstWords count classes words first → IsShortlex q first }
     ensures node { (g q : Graph) (count : ℕ) (classes : List ℕ) → IsGraph g → IsPartition g count classes → IsQuotient g count classes q → (w : List ℕ) → Over g.letters w → node q w ≡ slice_index classes (node g w) }
+{}
+
+/// Of the nodes with a property, the first has the least word.
+pub fn first_node_has_the_least_word<P: Property>()
+    ensures {
+        (g : Graph) (words : List (List ℕ)) → IsShortlex g words
+          → (i : ℕ) → i < g.size → P.holds i → ((j : ℕ) → j < i → ¬ P.holds j)
+          → IsLeastWord g.letters (λ w. P.holds (node g w)) (word_at words i)
+    }
+{}
+
+/// The least nonempty word that leads to a node: to another node than the root, the node's word; to the root, the word
+/// before the first edge that leads there, and that edge's letter. Where no edge leads to the root, the empty word alone
+/// does.
+pub fn nodes_have_least_nonempty_words()
+    ensures node {
+        (g : Graph) (words : List (List ℕ)) → IsShortlex g words
+          → (i : ℕ) → 0 < i → i < g.size → IsLeastWord g.letters (LeadsNonempty g i) (word_at words i)
+    }
+    ensures root {
+        (g : Graph) (words : List (List ℕ)) → IsShortlex g words
+          → (j a : ℕ) → a < g.letters → IsFirst g.targets 0 (j * g.letters + a)
+          → IsLeastWord g.letters (LeadsNonempty g 0) (word_at words j ++ a ∷ [])
+    }
+    ensures none {
+        (g : Graph) → IsGraph g → ((p : ℕ) → p < length g.targets → ¬ (slice_index g.targets p ≡ 0))
+          → (w : List ℕ) → Over g.letters w → node g w ≡ 0 → w ≡ []
+    }
+{}
+
+/// To lead to one node is a congruence exactly where words that lead from the root to one node lead from every node to
+/// one node.
+pub fn congruences_move_all_nodes_alike()
+    ensures {
+        (g : Graph) (words : List (List ℕ)) → IsShortlex g words
+          → IsCongruence g.letters (SameNode g)
+            ↔ ((u v : List ℕ) → Over g.letters u → Over g.letters v → SameNode g u v
+              → MapsAlike g.size (target g) u v)
+    }
 {}
