@@ -19,9 +19,9 @@ walk_append g = moved_append (target g)
 pub row_place : (i a n k : ℕ) → i < n → a < k → i * k + a < n * k
 row_place i a n k h g = let l : i + 1 ≤ n = omega arith in omega (arith, mul-le-mul_left k l)
 
-positive : (n k p : ℕ) → p < n * k → 0 < k
-positive n zero p h = omega arith
-positive n (suc k) p h = omega arith
+pub row_positive : (n k p : ℕ) → p < n * k → 0 < k
+row_positive n zero p h = omega arith
+row_positive n (suc k) p h = omega arith
 
 -- the row of a place
 pub row_of : (p i a n k : ℕ) → i * k + a ≡ p → p < n * k → i < n
@@ -166,7 +166,7 @@ module _ (k : ℕ) (same : List ℕ → List ℕ → Type 0) (g h : Graph) (word
       at p l =
           let n = g.letters in
           let in_list : p < g.size * n = (let d = a.shortlex.graph.long in omega arith) in
-          let some : 0 < n = positive g.size n p in_list in
+          let some : 0 < n = row_positive g.size n p in_list in
           let split : p / n * n + p % n ≡ p = div-add-mod' p n in
           let row : p / n < g.size = row_of p (p / n) (p % n) g.size n split in_list in
           let column : p % n < n = omega arith in

@@ -84,7 +84,7 @@ module _ (k : ℕ) (same : List ℕ → List ℕ → Type 0) (c : IsRightCongrue
           powers_trans i (i + n * p) (i + q) (repeats_often i p i n h.repeats (omega arith)) (powers_trans (i + n * p) ((i + q) + n * p) (i + q) there (powers_symm (i + q) ((i + q) + n * p) (repeats_often i p (i + q) n h.repeats (omega arith))))
 
   -- and so they are apart by a number of periods
-  apart_by_periods : (i p n q : ℕ) → IsIndexAndPeriod same x i p → same (power n x) (power (n + q) x) → q % p ≡ 0
+  pub apart_by_periods : (i p n q : ℕ) → IsIndexAndPeriod same x i p → same (power n x) (power (n + q) x) → q % p ≡ 0
   apart_by_periods i p n q h s = by (q % p) (q / p) (remainder q p h.positive)
     where
       by : (r d : ℕ) → (r < p) × (q ≡ r + d * p) → r ≡ 0

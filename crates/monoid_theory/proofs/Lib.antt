@@ -6,6 +6,9 @@ pub mod FiniteIdeals
 pub mod Rules
 pub mod Rewriting
 pub mod Cayley
+pub mod RightGraphs
+pub mod IdempotentPowers
+pub mod Trivial
 pub mod Settling
 pub mod Agreeing
 pub mod FiniteSearch

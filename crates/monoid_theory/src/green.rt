@@ -46,6 +46,28 @@ pub fn trivial_on_both_sides<R: Relation>()
     ensures left { (k : ℕ) → IsJTrivial k R.same → IsLTrivial k R.same }
 {}
 
+/// A finite monoid is R-, L- or J-trivial exactly where no two different listed words are in that relation.
+pub fn listed_words_tell_trivial_monoids<R: Relation>()
+    ensures right {
+        (k : ℕ) (words : List (List ℕ)) → IsRightCongruence k R.same → AreRepresentatives k R.same words
+          → IsRTrivial k R.same
+            ↔ ((i j : ℕ) → i < length words → j < length words
+              → IsR k R.same (word_at words i) (word_at words j) → i ≡ j)
+    }
+    ensures left {
+        (k : ℕ) (words : List (List ℕ)) → IsCongruence k R.same → AreRepresentatives k R.same words
+          → IsLTrivial k R.same
+            ↔ ((i j : ℕ) → i < length words → j < length words
+              → IsL k R.same (word_at words i) (word_at words j) → i ≡ j)
+    }
+    ensures two_sided {
+        (k : ℕ) (words : List (List ℕ)) → IsCongruence k R.same → AreRepresentatives k R.same words
+          → IsJTrivial k R.same
+            ↔ ((i j : ℕ) → i < length words → j < length words
+              → IsJ k R.same (word_at words i) (word_at words j) → i ≡ j)
+    }
+{}
+
 /// The ideals of an element are what walks from it lead to: in the right Cayley graph, in the left one, in one and
 /// then the other. For right ideals a right congruence is enough.
 pub fn ideals_are_walks<R: Relation>()

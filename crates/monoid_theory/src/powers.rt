@@ -1,10 +1,11 @@
 //! Laws of the powers of a word.
-ghost use Rattle.std.specs.Prelude.{◌≡◌, ◌<◌, ◌≤◌, ◌⊎◌, ◌+◌, ◌%◌, ◌↔◌, ℕ, List};
+ghost use Rattle.std.specs.Prelude.{◌≡◌, ◌<◌, ◌≤◌, ◌⊎◌, ◌+◌, ◌%◌, ◌↔◌, ℕ, List, length};
 ghost use Rattle.language_theory.specs.Words.{Over, power};
 ghost use Rattle.language_theory.specs.Congruence.{IsRightCongruence, IsCongruence, Syntactic, Agree};
 ghost use Rattle.language_theory.specs.Representatives.{AreRepresentatives};
 ghost use Rattle.language_theory.specs.Nerode.{MinimalAutomaton, IsMinimal};
 ghost use Rattle.monoid_theory.specs.Separation.{Separates, IsSeparation};
+ghost use Rattle.monoid_theory.specs.Green.{IsIdempotent};
 ghost use Rattle.monoid_theory.specs.Powers.{Repeats, IsIndexAndPeriod, IsAperiodic, IsFirstLoop, NeverSettle};
 
 use language_theory::language::{Language, Relation};
@@ -20,6 +21,25 @@ pub fn index_and_period_are_unique<R: Relation>()
 /// periods.
 pub fn powers_repeat_with_the_period<R: Relation>()
     ensures { (k : ℕ) → IsRightCongruence k R.same → (x : List ℕ) → Over k x → (i p n m : ℕ) → IsIndexAndPeriod R.same x i p → i ≤ n → i ≤ m → R.same (power n x) (power m x) ↔ (n % p ≡ m % p) }
+{}
+
+/// Index and period together are at most the number of classes. A power of x other than the empty one is idempotent
+/// exactly where its exponent is a number of periods and not below the index, and some power is.
+pub fn powers_become_idempotent<R: Relation>()
+    ensures bound {
+        (k : ℕ) (words : List (List ℕ)) → IsRightCongruence k R.same → AreRepresentatives k R.same words
+          → (x : List ℕ) → Over k x → (i p : ℕ) → IsIndexAndPeriod R.same x i p → i + p ≤ length words
+    }
+    ensures exactly {
+        (k : ℕ) → IsRightCongruence k R.same → (x : List ℕ) → Over k x
+          → (i p n : ℕ) → IsIndexAndPeriod R.same x i p → 1 ≤ n
+          → IsIdempotent R.same (power n x) ↔ ((i ≤ n) × (n % p ≡ 0))
+    }
+    ensures some {
+        (k : ℕ) (words : List (List ℕ)) → IsRightCongruence k R.same → AreRepresentatives k R.same words
+          → (x : List ℕ) → Over k x
+          → (n : ℕ) × (1 ≤ n) × (n ≤ length words) × IsIdempotent R.same (power n x)
+    }
 {}
 
 /// Related words have the same index and period.

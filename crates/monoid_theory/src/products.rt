@@ -25,11 +25,16 @@ pub fn products_form_a_monoid<R: Relation>()
 
 /// In a right congruence a letter behind any word of a place gives a word of the place that the right Cayley graph has,
 /// and in a congruence a letter before it gives a word of the place that the left Cayley graph has. The shortlex graph
-/// of a relation is its right Cayley graph, and there a word leads to its place.
+/// of a relation is its right Cayley graph, and there a word leads to its place; and the right Cayley graph of a right
+/// congruence is its shortlex graph.
 pub fn letters_act_on_places<R: Relation>()
     ensures right { (k : ℕ) (words : List (List ℕ)) → IsRightCongruence k R.same → AreRepresentatives k R.same words → (w : List ℕ) (i a r : ℕ) → Over k w → a < k → IsPlaceOf R.same words w i → IsPlaceOf R.same words (w ++ a ∷ []) r ↔ IsRight R.same words i a r }
     ensures left { (k : ℕ) (words : List (List ℕ)) → IsCongruence k R.same → AreRepresentatives k R.same words → (w : List ℕ) (a i r : ℕ) → Over k w → a < k → IsPlaceOf R.same words w i → IsPlaceOf R.same words (a ∷ w) r ↔ IsLeft R.same words a i r }
     ensures graph { (k : ℕ) (d : Graph) (words : List (List ℕ)) → IsGraphOf k R.same d words → IsRightGraph k R.same words d }
+    ensures only {
+        (k : ℕ) (d : Graph) (words : List (List ℕ)) → IsRightCongruence k R.same → AreRepresentatives k R.same words
+          → IsRightGraph k R.same words d → IsGraphOf k R.same d words
+    }
     ensures node { (k : ℕ) (d : Graph) (words : List (List ℕ)) → IsGraphOf k R.same d words → (w : List ℕ) → Over k w → IsPlaceOf R.same words w (node d w) }
 {}
 
