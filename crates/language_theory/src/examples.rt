@@ -2,6 +2,7 @@
 
 ghost use Rattle.std.specs.Prelude.{◌∷◌, [], ℕ};
 ghost use Rattle.language_theory.specs.Words.{◌⊏◌};
+ghost use Rattle.language_theory.specs.Links.{IsPrefixLink, IsSuffixLink};
 ghost use Rattle.language_theory.specs.Congruence.{Syntactic};
 ghost use Rattle.language_theory.specs.Nerode.{Nerode, IsMinimal};
 ghost use Rattle.language_theory.specs.Examples.{IsAbStar, ab_star};
@@ -15,6 +16,13 @@ pub fn first_words_of_two_letters()
     ensures ba { (0 ∷ 1 ∷ []) ⊏ (1 ∷ 0 ∷ []) }
     ensures bb { (1 ∷ 0 ∷ []) ⊏ (1 ∷ 1 ∷ []) }
     ensures aaa { (1 ∷ 1 ∷ []) ⊏ (0 ∷ 0 ∷ 0 ∷ []) }
+{}
+
+/// In the list of 1, a, b, aa and ab, the word ab is a followed by its last letter b, and its first letter a followed by
+/// b.
+pub fn ab_has_a_prefix_and_a_suffix()
+    ensures prefix { IsPrefixLink ([] ∷ (0 ∷ []) ∷ (1 ∷ []) ∷ (0 ∷ 0 ∷ []) ∷ (0 ∷ 1 ∷ []) ∷ []) 4 1 1 }
+    ensures suffix { IsSuffixLink ([] ∷ (0 ∷ []) ∷ (1 ∷ []) ∷ (0 ∷ 0 ∷ []) ∷ (0 ∷ 1 ∷ []) ∷ []) 4 0 2 }
 {}
 
 /// The minimal automaton of (ab)* has the nodes of 1, a and b.

@@ -12,7 +12,7 @@ use Rattle.monoid_theory.specs.Separation.{Separates, CanSeparate, IsSeparation,
 use Rattle.language_theory.proofs.Numbers.{equal_or_not, least_or_none}
 use Rattle.language_theory.proofs.Shortlex.{over_append, over_or_not, shortlex_trans}
 use Rattle.language_theory.proofs.LeastWords.{least_word, least_words_equal}
-use Rattle.language_theory.proofs.Graphs.{row_place, walk_append, walk_within, target_within, node_within, node_word_least}
+use Rattle.language_theory.proofs.Graphs.{row_place, walk_append, walk_within, target_within, node_within, first_node_least}
 use Rattle.language_theory.proofs.Minimal.{minimal_word_over, syntactic_by_walks}
 use Rattle.monoid_theory.proofs.FiniteSearch.{found_or_none}
 
@@ -138,20 +138,17 @@ module _ (k : ℕ) (L : List ℕ → Type 0) (d : MinimalAutomaton) (h : IsMinim
 
   -- the least word before is that of the first node at which the words part
   pub parting_before : (s t : List ℕ) (i : ℕ) → Over k s → Over k t → IsFirstParting d.graph s t i → IsLeastWord k (CanSeparate k L s t) (word_at d.words i)
-  parting_before s t i os ot f = record { over = o; holds = (can_separate_by_parting s t (word_at d.words i) os ot o).1 (rw (h.classes.shortlex.leads i f.within) f.parts); least = least }
+  parting_before s t i os ot f =
+      let first = first_node_least d.graph d.words h.classes.shortlex Parts i f.within f.parts (λ j l n. n (f.first j l)) in
+      let o = minimal_word_over k L d h i f.within in
+      record {
+        over = o;
+        holds = (can_separate_by_parting s t (word_at d.words i) os ot o).1 first.holds;
+        least = λ v ov c. first.least v (in_graph v ov) ((can_separate_by_parting s t v os ot ov).0 c);
+      }
     where
-      o : Over k (word_at d.words i)
-      o = minimal_word_over k L d h i f.within
-
-      least : (v : List ℕ) → Over k v → CanSeparate k L s t v → ¬ (v ⊏ word_at d.words i)
-      least v ov c b = elim (cases_lt (node d.graph v) i) [
-        | inl l ↦ (can_separate_by_parting s t v os ot ov).0 c (f.first (node d.graph v) l)
-        | inr l ↦ node_word_least d.graph d.words h.classes.shortlex v (in_graph v ov) (below (cases_lt i (node d.graph v)) l)
-      ]
-        where
-          below : (i < node d.graph v) ⊎ (node d.graph v ≤ i) → i ≤ node d.graph v → v ⊏ word_at d.words (node d.graph v)
-          below (inl g) l = shortlex_trans v (word_at d.words i) (word_at d.words (node d.graph v)) b (h.classes.shortlex.least.rise i (node d.graph v) g (let e = h.classes.shortlex.long in let m = node_inside v ov in omega arith))
-          below (inr g) l = subst (λ (j : ℕ). v ⊏ word_at d.words j) (let e : i ≡ node d.graph v = omega arith in e) b
+      Parts : ℕ → Type 0
+      Parts j = ¬ (walk d.graph j s ≡ walk d.graph j t)
 
   -- two words part at a first node, or at none
   pub parting_or_none : (s t : List ℕ) → ((i : ℕ) × IsFirstParting d.graph s t i) ⊎ ((i : ℕ) → i < d.graph.size → walk d.graph i s ≡ walk d.graph i t)

@@ -2,6 +2,8 @@
 use Rattle.std.proofs.Common.{◌≡◌, ◌↔◌, inl, ℕ, zero, suc, ◌+◌, ◌≤◌, List, [], ◌∷◌, ◌++◌, length, refl, ap, sym, ◌∙◌, arith, length-append}
 use Rattle.language_theory.specs.Words.{Over, power}
 use Rattle.language_theory.specs.Congruence.{Syntactic}
+use Rattle.language_theory.proofs.Congruences.{other_direction}
+use Rattle.monoid_theory.specs.Green.{IsIdempotent}
 use Rattle.monoid_theory.specs.Powers.{IsIndexAndPeriod, Repeats, NeverSettle}
 use Rattle.monoid_theory.specs.Examples.{IsEven}
 use Rattle.language_theory.proofs.Shortlex.{over_append}
@@ -55,3 +57,9 @@ a_has_period_two = record { positive = omega arith; repeats = λ p q op oq. two_
 
 pub a_never_settles : NeverSettle IsEven [] (0 ∷ []) []
 a_never_settles = never_settles 1 IsEven [] (0 ∷ []) [] tt (omega arith, tt) tt 0 2 a_has_period_two.positive a_has_period_two.repeats (inl ((0, refl), a_is_odd))
+
+pub cube_is_a : Syntactic 1 IsEven (0 ∷ 0 ∷ 0 ∷ []) (0 ∷ [])
+cube_is_a p q op oq = other_direction (two_more p (0 ∷ q) op (omega arith, oq))
+
+pub a_not_idempotent : ¬ IsIdempotent (Syntactic 1 IsEven) (0 ∷ [])
+a_not_idempotent s = a_is_odd ((s [] [] tt tt).0 (1, refl))

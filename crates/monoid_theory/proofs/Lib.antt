@@ -3,6 +3,7 @@ pub mod Ideals
 pub mod Exponents
 pub mod Returns
 pub mod FiniteIdeals
+pub mod Cells
 pub mod Rules
 pub mod Rewriting
 pub mod Cayley

@@ -37,3 +37,9 @@ pub fn even_length_never_settles()
     ensures period { IsIndexAndPeriod (Syntactic 1 IsEven) (0 ∷ []) 0 2 }
     ensures settle { NeverSettle IsEven [] (0 ∷ []) [] }
 {}
+
+/// For the words of even length over one letter a, a a a is congruent to a, and a is not idempotent.
+pub fn even_length_has_a_cube()
+    ensures cube { Syntactic 1 IsEven (0 ∷ 0 ∷ 0 ∷ []) (0 ∷ []) }
+    ensures square { ¬ IsIdempotent (Syntactic 1 IsEven) (0 ∷ []) }
+{}

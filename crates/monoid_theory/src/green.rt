@@ -5,7 +5,7 @@ ghost use Rattle.language_theory.specs.Congruence.{IsEquivalence, IsRightCongrue
 ghost use Rattle.language_theory.specs.Representatives.{AreRepresentatives};
 ghost use Rattle.language_theory.specs.ShortlexGraph.{Graph, walk};
 ghost use Rattle.monoid_theory.specs.Products.{IsRightGraph, IsLeftGraph};
-ghost use Rattle.monoid_theory.specs.Green.{IsInRightIdeal, IsInLeftIdeal, IsInIdeal, IsR, IsL, IsJ, IsH, IsD, IsRTrivial, IsLTrivial, IsJTrivial};
+ghost use Rattle.monoid_theory.specs.Green.{IsInRightIdeal, IsInLeftIdeal, IsInIdeal, IsR, IsL, IsJ, IsH, IsD, AreMembers, IsRTrivial, IsLTrivial, IsJTrivial};
 
 use language_theory::language::Relation;
 
@@ -65,6 +65,36 @@ pub fn listed_words_tell_trivial_monoids<R: Relation>()
           → IsJTrivial k R.same
             ↔ ((i j : ℕ) → i < length words → j < length words
               → IsJ k R.same (word_at words i) (word_at words j) → i ≡ j)
+    }
+{}
+
+/// Green's lemma: where s x is t and t y is s, multiplication by x on the right takes the L-class of s into that of t,
+/// keeps each element in its R-class, and is undone by y.
+pub fn greens_lemma<R: Relation>()
+    ensures row {
+        (k : ℕ) → IsCongruence k R.same → (s t x y : List ℕ) → Over k s → Over k t → Over k x → Over k y
+          → R.same t (s ++ x) → R.same s (t ++ y)
+          → (u : List ℕ) → Over k u → IsL k R.same u s → IsR k R.same u (u ++ x)
+    }
+    ensures column {
+        (k : ℕ) → IsCongruence k R.same → (s t x y : List ℕ) → Over k s → Over k t → Over k x → Over k y
+          → R.same t (s ++ x) → R.same s (t ++ y)
+          → (u : List ℕ) → Over k u → IsL k R.same u s → IsL k R.same (u ++ x) t
+    }
+    ensures undone {
+        (k : ℕ) → IsCongruence k R.same → (s t x y : List ℕ) → Over k s → Over k t → Over k x → Over k y
+          → R.same t (s ++ x) → R.same s (t ++ y)
+          → (u : List ℕ) → Over k u → IsL k R.same u s → R.same ((u ++ x) ++ y) u
+    }
+{}
+
+/// In a finite monoid the classes of H in one class of J, the cells of one box, have one number of elements.
+pub fn cells_of_one_box_have_one_size<R: Relation>()
+    ensures {
+        (k : ℕ) (words : List (List ℕ)) → IsCongruence k R.same → AreRepresentatives k R.same words
+          → (s t : List ℕ) → Over k s → Over k t → IsJ k R.same s t
+          → (xs ys : List ℕ) → AreMembers (IsH k R.same) words s xs → AreMembers (IsH k R.same) words t ys
+          → length xs ≡ length ys
     }
 {}
 
