@@ -6,22 +6,22 @@ use Rattle.std.proofs.lemmas.List.{get_or_append_left, get_or_push}
 use Rattle.std.proofs.Math.Nat.{mul-le-mul_right}
 use Rattle.std.proofs.lemmas.List.Elements.{All-push, All-weaker, All-get_or}
 use Rattle.language_theory.specs.Words.{Over, ◌⊏◌, word_at}
-use Rattle.language_theory.proofs.Shortlex.{smaller_with_letters, smaller_last_letter, shorter_first, shortlex_asymm, shortlex_irrefl, over_last}
+use Rattle.language_theory.proofs.Shortlex.{shortlex_append_letters, shortlex_append_last, shortlex_shorter, shortlex_asymm, shortlex_irrefl, over_last}
 use Rattle.language_theory.proofs.Graphs.{row_place}
 use Rattle.exploration.specs.Search.{IsBreadthFirst}
 use Rattle.exploration.proofs.Places.{place_order, row_within, place_before_or_last}
 
 -- the empty word comes before each word with a letter
 pub nil_first : (w : List ℕ) (a : ℕ) → [] ⊏ (w ++ a ∷ [])
-nil_first w a = shorter_first [] (w ++ a ∷ []) (simp length-append (omega arith))
+nil_first w a = shortlex_shorter [] (w ++ a ∷ []) (simp length-append (omega arith))
 
 -- the word that leads to the next target is greater than each word that was found
 pub found_before_next : (k : ℕ) (words : List (List ℕ)) (targets : List ℕ) (p a i : ℕ) → IsBreadthFirst k words targets → p < length words → length targets ≡ p * k + a → a < k → i < length words → word_at words i ⊏ (word_at words p ++ a ∷ [])
 found_before_next k words targets p a i h hp e ha hi = by (cases_lt 0 i)
   where
     after : (q b : ℕ) → b < k → (q < p) ⊎ ((q ≡ p) × (b < a)) → (word_at words q ++ b ∷ []) ⊏ (word_at words p ++ a ∷ [])
-    after q b hb (inl l) = smaller_with_letters (word_at words q) (word_at words p) b a (h.rise q p l hp)
-    after q b hb (inr l) = subst (λ (n : ℕ). (word_at words q ++ b ∷ []) ⊏ (word_at words n ++ a ∷ [])) l.0 (smaller_last_letter (word_at words q) b a l.1)
+    after q b hb (inl l) = shortlex_append_letters (word_at words q) (word_at words p) b a (h.rise q p l hp)
+    after q b hb (inr l) = subst (λ (n : ℕ). (word_at words q ++ b ∷ []) ⊏ (word_at words n ++ a ∷ [])) l.0 (shortlex_append_last (word_at words q) b a l.1)
 
     by : (0 < i) ⊎ (i ≤ 0) → word_at words i ⊏ (word_at words p ++ a ∷ [])
     by (inl l) =

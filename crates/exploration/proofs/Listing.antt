@@ -5,7 +5,7 @@ use Rattle.std.proofs.lemmas.Nat.{same_from_place}
 use Rattle.std.proofs.lemmas.List.{get_or_append_left, get_or_push}
 use Rattle.language_theory.specs.Words.{Over, ◌⊏◌, word_at}
 use Rattle.language_theory.specs.ShortlexGraph.{Graph, IsShortlex, target, node}
-use Rattle.language_theory.proofs.Shortlex.{last_letter, over_last, over_prefix, over_suffix, shortlex_irrefl, shortlex_asymm, smaller_than_longer, smaller_with_letters, smaller_last_letter, smaller_then_not_greater}
+use Rattle.language_theory.proofs.Shortlex.{last_letter, over_last, over_prefix, over_suffix, shortlex_irrefl, shortlex_asymm, shortlex_append_longer, shortlex_append_letters, shortlex_append_last, shortlex_then_not_greater}
 use Rattle.language_theory.proofs.Graphs.{walk_append, node_within, node_word_over, node_word_least, node_word_prefix, root_word, row_place, target_within}
 use Rattle.std.proofs.lemmas.List.{ext_get_or}
 use Rattle.exploration.specs.Listing.{IsListing}
@@ -43,7 +43,7 @@ module _ (g : Graph) (words : List (List ℕ)) (s : IsShortlex g words) where
           let o : Over g.letters (u ++ a ∷ []) = subst (Over g.letters) e (node_word_over g words s m hm) in
           let leads : target g (node g u) a ≡ m = sym (walk_append g 0 u (a ∷ [])) ∙ ap (node g) (sym e) ∙ s.leads m hm in
           let longer : word_at words m ≡ word_at words (node g u) ++ a ∷ [] = e ∙ ap (λ (w : List ℕ). w ++ a ∷ []) (sym prefix) in
-          let grows : word_at words (node g u) ⊏ word_at words m = subst (λ (w : List ℕ). word_at words (node g u) ⊏ w) (sym longer) (smaller_than_longer (word_at words (node g u)) a) in
+          let grows : word_at words (node g u) ⊏ word_at words m = subst (λ (w : List ℕ). word_at words (node g u) ⊏ w) (sym longer) (shortlex_append_longer (word_at words (node g u)) a) in
           let within : node g u < g.size = node_within g u s.graph (over_prefix g.letters u (a ∷ []) o) in
           record {
             letter = (over_suffix g.letters u (a ∷ []) o).0;
@@ -64,8 +64,8 @@ module _ (g : Graph) (words : List (List ℕ)) (s : IsShortlex g words) where
   place_word q b p a ha hp h = by (place_order q b p a g.letters ha h)
     where
       by : (q < p) ⊎ ((q ≡ p) × (b < a)) → (word_at words q ++ b ∷ []) ⊏ (word_at words p ++ a ∷ [])
-      by (inl l) = smaller_with_letters (word_at words q) (word_at words p) b a (rise q p l hp)
-      by (inr l) = subst (λ (n : ℕ). (word_at words q ++ b ∷ []) ⊏ (word_at words n ++ a ∷ [])) l.0 (smaller_last_letter (word_at words q) b a l.1)
+      by (inl l) = shortlex_append_letters (word_at words q) (word_at words p) b a (rise q p l hp)
+      by (inr l) = subst (λ (n : ℕ). (word_at words q ++ b ∷ []) ⊏ (word_at words n ++ a ∷ [])) l.0 (shortlex_append_last (word_at words q) b a l.1)
 
 module _ (g : Graph) (n : ℕ) (found : List (List ℕ)) (h : IsListing g n found) where
   -- the next node's link is at a place that was not handled
@@ -107,7 +107,7 @@ module _ (g : Graph) (n : ℕ) (found : List (List ℕ)) (h : IsListing g n foun
             let (p, a, link, after) = next_link (length found) refl (omega arith) in
             let below : word_at h.words (length found) ⊏ word_at h.words (target g q b) = h.shortlex.least.rise (length found) (target g q b) l (omega (arith, h.shortlex.long)) in
             let less : (word_at h.words p ++ a ∷ []) ⊏ (word_at h.words q ++ b ∷ []) =
-            subst (λ (w : List ℕ). w ⊏ (word_at h.words q ++ b ∷ [])) link.longer (smaller_then_not_greater (word_at h.words (length found)) (word_at h.words (target g q b)) (word_at h.words q ++ b ∷ []) below (target_word_least g h.words h.shortlex q b hq hb)) in
+            subst (λ (w : List ℕ). w ⊏ (word_at h.words q ++ b ∷ [])) link.longer (shortlex_then_not_greater (word_at h.words (length found)) (word_at h.words (target g q b)) (word_at h.words q ++ b ∷ []) below (target_word_least g h.words h.shortlex q b hq hb)) in
             absurd (same_or_later p a link.letter (omega (arith, link.earlier)) (omega (arith, after, place)) less)
 
     -- the next node's word is the one that leads there

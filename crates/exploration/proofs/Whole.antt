@@ -5,7 +5,7 @@ use Rattle.std.proofs.lemmas.List.{append-nil}
 use Rattle.language_theory.specs.Words.{Over, ◌⊏◌, word_at}
 use Rattle.language_theory.specs.Representatives.{HasMoreClasses}
 use Rattle.language_theory.specs.ShortlexGraph.{Graph, IsGraph, IsShortlex, IsGraphOf, node, target}
-use Rattle.language_theory.proofs.Shortlex.{over_prefix, over_suffix, shortlex_irrefl, shortlex_asymm, smaller_than_longer, strong_induction}
+use Rattle.language_theory.proofs.Shortlex.{over_prefix, over_suffix, shortlex_irrefl, shortlex_asymm, shortlex_append_longer, strong_induction}
 use Rattle.language_theory.proofs.Graphs.{row_place, walk_append, node_within}
 use Rattle.language_theory.proofs.ShortlexCriterion.{shortlex_by_letters}
 use Rattle.language_theory.proofs.Numbers.{pigeonhole}
@@ -38,7 +38,7 @@ module _ (k : ℕ) (words : List (List ℕ)) (targets : List ℕ) (h : IsBreadth
   found_earlier p a i hp hi e = by (cases_lt p i) (cases_lt i p)
     where
       grows : word_at words p ⊏ word_at words i
-      grows = subst (λ (w : List ℕ). word_at words p ⊏ w) (sym e) (smaller_than_longer (word_at words p) a)
+      grows = subst (λ (w : List ℕ). word_at words p ⊏ w) (sym e) (shortlex_append_longer (word_at words p) a)
 
       by : (p < i) ⊎ (i ≤ p) → (i < p) ⊎ (p ≤ i) → p < i
       by (inl l) _ = l

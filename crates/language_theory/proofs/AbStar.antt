@@ -23,7 +23,8 @@ led_back : (w : List ℕ) → Over 2 w → node ab_star.graph w ≡ 0 → IsAbSt
 led_back [] o e = (0, refl)
 led_back (zero ∷ []) o e = absurd (omega (arith, e))
 led_back (zero ∷ zero ∷ w) o e = absurd (omega (arith, e, stays w o.1.1))
-led_back (zero ∷ suc zero ∷ w) o e = let (n, f) = led_back w o.1.1 e in (suc n, ap (λ (v : List ℕ). 0 ∷ 1 ∷ v) f)
+led_back (zero ∷ suc zero ∷ w) o e =
+    let (n, f) = led_back w o.1.1 e in (suc n, ap (λ (v : List ℕ). 0 ∷ 1 ∷ v) f)
 led_back (zero ∷ suc (suc a) ∷ w) o e = absurd (omega (arith, o.1.0))
 led_back (suc zero ∷ w) o e = absurd (omega (arith, e, stays w o.1))
 led_back (suc (suc a) ∷ w) o e = absurd (omega (arith, o.0))
@@ -38,8 +39,14 @@ marked (suc zero) e = absurd (both_ways false refl e)
 marked (suc (suc zero)) e = absurd (both_ways false refl e)
 marked (suc (suc (suc i))) e = absurd (both_ways false refl e)
 
-final : (w : List ℕ) → Over 2 w → IsTrue (is_marked ab_star.finals (node ab_star.graph w)) ↔ IsAbStar w
-final w o = (λ e. led_back w o (marked (node ab_star.graph w) e), λ h. let (n, e) = h in ap (λ v. is_marked ab_star.finals (node ab_star.graph v)) (sym e) ∙ ap (is_marked ab_star.finals) (leads_back n))
+final : (w : List ℕ) → Over 2 w → IsTrue (is_marked ab_star.finals (node ab_star.graph w))
+    ↔ IsAbStar w
+final w o = (
+  λ e. led_back w o (marked (node ab_star.graph w) e),
+  λ h. let (n, e) = h in
+      ap (λ v. is_marked ab_star.finals (node ab_star.graph v)) (sym e)
+      ∙ ap (is_marked ab_star.finals) (leads_back n),
+)
 
 graph : IsGraph ab_star.graph
 graph = record { root = omega arith; long = refl; within = within }
@@ -74,7 +81,8 @@ rise (suc i) (suc zero) h l = absurd (omega arith)
 rise (suc (suc i)) (suc (suc zero)) h l = absurd (omega arith)
 rise i (suc (suc (suc j))) h l = absurd (omega arith)
 
-steps : (i a : ℕ) → i < 3 → a < 2 → ¬ ((word_at ab_star.words i ++ a ∷ []) ⊏ word_at ab_star.words (target ab_star.graph i a))
+steps : (i a : ℕ) → i < 3 → a < 2
+    → ¬ ((word_at ab_star.words i ++ a ∷ []) ⊏ word_at ab_star.words (target ab_star.graph i a))
 steps zero zero h l s = cc
 steps zero (suc zero) h l s = cc
 steps (suc zero) zero h l s = cc
@@ -91,7 +99,9 @@ shortlex = shortlex_by_letters ab_star.graph ab_star.words graph refl over leads
 apart : (i j : ℕ) → i < 3 → j < 3 → Alike ab_star.graph ab_star.finals i j → i ≡ j
 apart i j h l f = by i j h l (f [] tt) (f (1 ∷ []) (omega arith, tt))
   where
-    by : (i j : ℕ) → i < 3 → j < 3 → is_marked ab_star.finals i ≡ is_marked ab_star.finals j → is_marked ab_star.finals (target ab_star.graph i 1) ≡ is_marked ab_star.finals (target ab_star.graph j 1) → i ≡ j
+    by : (i j : ℕ) → i < 3 → j < 3 → is_marked ab_star.finals i ≡ is_marked ab_star.finals j
+        → is_marked ab_star.finals (target ab_star.graph i 1)
+        ≡ is_marked ab_star.finals (target ab_star.graph j 1) → i ≡ j
     by zero zero h l e d = refl
     by zero (suc zero) h l e d = cc
     by zero (suc (suc zero)) h l e d = cc
@@ -105,15 +115,31 @@ apart i j h l f = by i j h l (f [] tt) (f (1 ∷ []) (omega arith, tt))
     by i (suc (suc (suc j))) h l e d = absurd (omega arith)
 
 nodes : (u v : List ℕ) → Over 2 u → Over 2 v → SameNode ab_star.graph u v ↔ Nerode 2 IsAbStar u v
-nodes u v ou ov = both_directions
-    (λ e w o. ap (λ i. is_marked ab_star.finals (walk ab_star.graph i w)) e, apart (node ab_star.graph u) (node ab_star.graph v) (node_within ab_star.graph u graph ou) (node_within ab_star.graph v graph ov))
-    (alike_nodes 2 IsAbStar ab_star.graph ab_star.words ab_star.finals shortlex refl final u v ou ov)
+nodes u v ou ov = both_directions (
+  λ e w o. ap (λ i. is_marked ab_star.finals (walk ab_star.graph i w)) e,
+  apart (node ab_star.graph u) (node ab_star.graph v) (node_within ab_star.graph u graph ou)
+      (node_within ab_star.graph v graph ov),
+)
+    (alike_nodes 2 IsAbStar ab_star.graph ab_star.words ab_star.finals shortlex refl final u v ou
+    ov)
 
 pub ab_star_minimal : IsMinimal 2 IsAbStar ab_star
-ab_star_minimal = record { classes = record { letters = refl; shortlex = shortlex; nodes = record { both = nodes } }; long = refl; final = final }
+ab_star_minimal =
+    record {
+      classes = record {
+        letters = refl;
+        shortlex = shortlex;
+        nodes =
+            record { both = nodes };
+      };
+      long = refl;
+      final = final;
+    }
 
 pub aba_is_a : Syntactic 2 IsAbStar (0 ∷ 1 ∷ 0 ∷ []) (0 ∷ [])
-aba_is_a = ((syntactic_by_walks 2 IsAbStar ab_star ab_star_minimal).both (0 ∷ 1 ∷ 0 ∷ []) (0 ∷ []) (omega arith, (omega arith, (omega arith, tt))) (omega arith, tt)).1 alike
+aba_is_a =
+    ((syntactic_by_walks 2 IsAbStar ab_star ab_star_minimal).both (0 ∷ 1 ∷ 0 ∷ []) (0 ∷ [])
+    (omega arith, (omega arith, (omega arith, tt))) (omega arith, tt)).1 alike
   where
     alike : (i : ℕ) → i < 3 → walk ab_star.graph i (0 ∷ 1 ∷ 0 ∷ []) ≡ walk ab_star.graph i (0 ∷ [])
     alike zero h = refl
@@ -122,7 +148,11 @@ aba_is_a = ((syntactic_by_walks 2 IsAbStar ab_star ab_star_minimal).both (0 ∷ 
     alike (suc (suc (suc i))) h = absurd (omega arith)
 
 pub bb_behind_b : Nerode 2 IsAbStar (1 ∷ 1 ∷ []) (1 ∷ [])
-bb_behind_b = (nodes (1 ∷ 1 ∷ []) (1 ∷ []) (omega arith, (omega arith, tt)) (omega arith, tt)).0 refl
+bb_behind_b =
+    (nodes (1 ∷ 1 ∷ []) (1 ∷ []) (omega arith, (omega arith, tt)) (omega arith, tt)).0 refl
 
 pub bb_apart_b : ¬ Syntactic 2 IsAbStar (1 ∷ 1 ∷ []) (1 ∷ [])
-bb_apart_b s = let e : walk ab_star.graph 1 (1 ∷ 1 ∷ []) ≡ walk ab_star.graph 1 (1 ∷ []) = ((syntactic_by_walks 2 IsAbStar ab_star ab_star_minimal).both (1 ∷ 1 ∷ []) (1 ∷ []) (omega arith, (omega arith, tt)) (omega arith, tt)).0 s 1 (omega arith) in omega (arith, e)
+bb_apart_b s =
+    let e : walk ab_star.graph 1 (1 ∷ 1 ∷ []) ≡ walk ab_star.graph 1 (1 ∷ []) =
+    ((syntactic_by_walks 2 IsAbStar ab_star ab_star_minimal).both (1 ∷ 1 ∷ []) (1 ∷ [])
+    (omega arith, (omega arith, tt)) (omega arith, tt)).0 s 1 (omega arith) in omega (arith, e)

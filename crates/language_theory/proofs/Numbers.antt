@@ -1,4 +1,5 @@
--- Facts on numbers and tests: the pigeonhole principle, and the least number with a property that can be tested.
+-- Facts on numbers and tests: the pigeonhole principle, and the least number with a property that
+-- can be tested.
 use Rattle.std.proofs.Common.{◌≡◌, ◌≢◌, ℕ, zero, suc, ◌<◌, ◌≤◌, ◌⊎◌, inl, inr, cond, eqb, refl, sym, subst, ◌∙◌, arith, Bool, true, false, IsTrue}
 use Rattle.std.proofs.lemmas.Bool.Decides.{eqb_tells}
 use Rattle.std.proofs.lemmas.Bool.{cases_lt, both_ways}
@@ -14,14 +15,16 @@ equal_or_not a b = elim (eqb_tells a b) [ inl h ↦ inl h.1 | inr h ↦ inr h.1 
 abbrev avoiding : (ℕ → ℕ) → ℕ → ℕ → ℕ → ℕ
 avoiding f m last i = cond (eqb (f i) m) (f last) (f i)
 
-avoids : (f : ℕ → ℕ) (m last i : ℕ) → ((f i ≡ m) × (avoiding f m last i ≡ f last)) ⊎ ((f i ≢ m) × (avoiding f m last i ≡ f i))
+avoids : (f : ℕ → ℕ) (m last i : ℕ) → ((f i ≡ m) × (avoiding f m last i ≡ f last))
+    ⊎ ((f i ≢ m) × (avoiding f m last i ≡ f i))
 avoids f m last i = elim (eqb_tells (f i) m) [
   | inl h ↦ inl (h.1, rw h.0 refl)
   | inr h ↦ inr (h.1, rw h.0 refl)
 ]
 
 -- n numbers below m, no two of them equal: n is at most m
-pub pigeonhole : (n m : ℕ) (f : ℕ → ℕ) → ((i : ℕ) → i < n → f i < m) → ((i j : ℕ) → i < j → j < n → f i ≢ f j) → n ≤ m
+pub pigeonhole : (n m : ℕ) (f : ℕ → ℕ) → ((i : ℕ) → i < n → f i < m)
+    → ((i j : ℕ) → i < j → j < n → f i ≢ f j) → n ≤ m
 pigeonhole zero m f into apart = omega arith
 pigeonhole (suc n) zero f into apart = absurd (omega (arith, into n (omega arith)))
 pigeonhole (suc n) (suc m) f into apart = omega (arith, pigeonhole n m (avoiding f m n) below other)
@@ -46,18 +49,24 @@ pigeonhole (suc n) (suc m) f into apart = omega (arith, pigeonhole n m (avoiding
     ]
 
 -- below n, none has the property or there is a least one
-pub least_or_none : (P : ℕ → Type 0) → ((i : ℕ) → P i ⊎ ¬ P i) → (n : ℕ) → ((i : ℕ) × (i < n) × P i × ((j : ℕ) → j < i → ¬ P j)) ⊎ ((i : ℕ) → i < n → ¬ P i)
+pub least_or_none : (P : ℕ → Type 0) → ((i : ℕ) → P i ⊎ ¬ P i) → (n : ℕ)
+    → ((i : ℕ) × (i < n) × P i × ((j : ℕ) → j < i → ¬ P j)) ⊎ ((i : ℕ) → i < n → ¬ P i)
 least_or_none P tell zero = inr (λ i h. absurd (omega arith))
 least_or_none P tell (suc n) = elim (least_or_none P tell n) [
   | inl (i, h, p, f) ↦ inl (i, omega arith, p, f)
   | inr none ↦ elim (tell n) [
     | inl p ↦ inl (n, omega arith, p, none)
-    | inr q ↦ inr (λ i h. elim (cases_lt i n) [ inl l ↦ none i l | inr l ↦ (let e : n ≡ i = omega arith in subst (λ (x : ℕ). ¬ P x) e q) ])
+    | inr q ↦ inr (λ i h. elim (cases_lt i n) [
+      | inl l ↦ none i l
+      | inr l ↦ (let e : n ≡ i = omega arith in
+          subst (λ (x : ℕ). ¬ P x) e q)
+    ])
   ]
 ]
 
 -- a number with a property that can be tested: there is a least one
-pub least_number : (P : ℕ → Type 0) → ((i : ℕ) → P i ⊎ ¬ P i) → (n : ℕ) → P n → (i : ℕ) × (i ≤ n) × P i × ((j : ℕ) → j < i → ¬ P j)
+pub least_number : (P : ℕ → Type 0) → ((i : ℕ) → P i ⊎ ¬ P i) → (n : ℕ) → P n → (i : ℕ) × (i ≤ n)
+    × P i × ((j : ℕ) → j < i → ¬ P j)
 least_number P tell n p = elim (least_or_none P tell n) [
   | inl (i, h, q, f) ↦ (i, omega arith, q, f)
   | inr none ↦ (n, omega arith, p, none)

@@ -1,9 +1,11 @@
--- Automata, which may have many initial states and many steps from one state by one letter (Pin: automata, paths, acceptance).
+-- Automata, which may have many initial states and many steps from one state by one letter (Pin:
+-- automata, paths, acceptance).
 use Rattle.std.specs.Prelude.{◌≡◌, ◌<◌, ◌&&◌, ◌==◌, ◌↔◌, ℕ, Bool, false, IsTrue, List, [], ◌∷◌, length, slice_index_or, map, filter, All}
 use Rattle.std.specs.List.{list_any}
 use Rattle.language_theory.specs.Languages.{IsOnly}
 
--- A step is a triple: from, letter, to. Whether a state is initial or final is told by its place in a row of marks.
+-- A step is a triple: from, letter, to. Whether a state is initial or final is told by its place in
+-- a row of marks.
 pub record Automaton : Type 0 where
   pub states : ℕ
   pub letters : ℕ
@@ -34,7 +36,8 @@ targets_among p a steps = map (λ s. s.2) (filter (λ s. (s.0 == p) && (s.1 == a
 abbrev pub targets_of : Automaton → ℕ → ℕ → List ℕ
 targets_of m p a = targets_among p a m.steps
 
--- the rows of marks have a place for each state, and the steps lead from states to states by letters below `letters`
+-- the rows of marks have a place for each state, and the steps lead from states to states by
+-- letters below `letters`
 pub record IsAutomaton (m : Automaton) : Type 0 where
   pub initial : length m.initial ≡ m.states
   pub finals : length m.finals ≡ m.states
@@ -55,7 +58,8 @@ AcceptsFrom m (a ∷ w) p = (q : ℕ) × IsTarget m p a q × AcceptsFrom m w q
 abbrev pub IsInitial : Automaton → ℕ → Type 0
 IsInitial m p = (p < m.states) × IsTrue (is_initial m p)
 
--- the language of the automaton: some path from an initial to a final state has the letters of the word
+-- the language of the automaton: some path from an initial to a final state has the letters of the
+-- word
 abbrev pub Accepts : Automaton → List ℕ → Type 0
 Accepts m w = (p : ℕ) × IsInitial m p × AcceptsFrom m w p
 
@@ -68,7 +72,8 @@ Leads m p (a ∷ w) r = (q : ℕ) × IsTarget m p a q × Leads m q w r
 abbrev pub IsReached : Automaton → List ℕ → ℕ → Type 0
 IsReached m w r = (p : ℕ) × IsInitial m p × Leads m p w r
 
--- both words lead to the same set of states; the classes of this relation are the subsets of the automaton
+-- both words lead to the same set of states; the classes of this relation are the subsets of the
+-- automaton
 abbrev pub SameSubset : Automaton → List ℕ → List ℕ → Type 0
 SameSubset m u v = (r : ℕ) → IsReached m u r ↔ IsReached m v r
 

@@ -1,4 +1,5 @@
--- Equivalences of words: Nerode's and the syntactic one are instances (Pin: right congruences, congruences, the syntactic congruence).
+-- Equivalences of words: Nerode's and the syntactic one are instances (Pin: right congruences,
+-- congruences, the syntactic congruence).
 use Rattle.std.specs.Prelude.{◌≡◌, ◌++◌, ◌↔◌, ◌<◌, ℕ, List, [], ◌∷◌}
 use Rattle.language_theory.specs.Words.{Over}
 
@@ -27,7 +28,8 @@ pub record IsCongruence (k : ℕ) (same : List ℕ → List ℕ → Type 0) : Ty
 pub record Agree (k : ℕ) (same other : List ℕ → List ℕ → Type 0) : Type 0 where
   pub both : (u v : List ℕ) → Over k u → Over k v → same u v ↔ other u v
 
--- where a word takes a point, one letter after the other; `image p a` is where the letter a takes the point p
+-- where a word takes a point, one letter after the other; `image p a` is where the letter a takes
+-- the point p
 abbrev pub moved : {X : Type 0} → (X → ℕ → X) → X → List ℕ → X
 moved image p [] = p
 moved image p (a ∷ w) = moved image (image p a) w

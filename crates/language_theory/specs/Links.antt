@@ -1,4 +1,5 @@
--- The links of a list of least words: each word without its last or its first letter is a word of the list (Froidure and Pin 1997: prefix, last, first and suffix).
+-- The links of a list of least words: each word without its last or its first letter is a word of
+-- the list (Froidure and Pin 1997: prefix, last, first and suffix).
 use Rattle.std.specs.Prelude.{◌≡◌, ◌<◌, ◌++◌, ℕ, List, [], ◌∷◌, length}
 use Rattle.language_theory.specs.Words.{word_at}
 

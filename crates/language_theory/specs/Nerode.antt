@@ -1,4 +1,5 @@
--- Nerode's equivalence of a language, and its minimal automaton (Pin: residuals, the minimal automaton).
+-- Nerode's equivalence of a language, and its minimal automaton (Pin: residuals, the minimal
+-- automaton).
 use Rattle.std.specs.Prelude.{◌≡◌, ◌++◌, ◌↔◌, ℕ, Bool, IsTrue, List, length}
 use Rattle.language_theory.specs.Words.{Over}
 use Rattle.language_theory.specs.Automaton.{is_marked}
@@ -14,7 +15,8 @@ pub record MinimalAutomaton : Type 0 where
   pub finals : List Bool
   pub words : List (List ℕ)
 
--- The nodes are the Nerode classes of L in shortlex order of their least words, and those of words of L are final.
+-- The nodes are the Nerode classes of L in shortlex order of their least words, and those of words
+-- of L are final.
 pub record IsMinimal (k : ℕ) (L : List ℕ → Type 0) (m : MinimalAutomaton) : Type 0 where
   pub classes : IsGraphOf k (Nerode k L) m.graph m.words
   pub long : length m.finals ≡ m.graph.size

@@ -1,5 +1,6 @@
--- Finite complete deterministic graphs whose nodes are numbered in shortlex order of the least words that lead to them from node 0.
-use Rattle.std.specs.Prelude.{◌≡◌, ◌<◌, ◌+◌, ◌*◌, ◌↔◌, ℕ, Bool, List, [], ◌∷◌, length, slice_index, All}
+-- Finite complete deterministic graphs whose nodes are numbered in shortlex order of the least
+-- words that lead to them from node 0.
+use Rattle.std.specs.Prelude.{◌≡◌, ◌<◌, ◌+◌, ◌*◌, ◌↔◌, ℕ, Bool, List, [], length, slice_index, All}
 use Rattle.language_theory.specs.Words.{Over, word_at}
 use Rattle.language_theory.specs.Automaton.{is_marked}
 use Rattle.language_theory.specs.Representatives.{AreRepresentatives}
@@ -45,7 +46,8 @@ pub record IsShortlex (g : Graph) (words : List (List ℕ)) : Type 0 where
   pub least : AreRepresentatives g.letters (SameNode g) words
 
 -- the shortlex graph of a relation between words over k letters: its nodes are the classes
-pub record IsGraphOf (k : ℕ) (same : List ℕ → List ℕ → Type 0) (g : Graph) (words : List (List ℕ)) : Type 0 where
+pub record IsGraphOf (k : ℕ) (same : List ℕ → List ℕ → Type 0) (g : Graph)
+    (words : List (List ℕ)) : Type 0 where
   pub letters : g.letters ≡ k
   pub shortlex : IsShortlex g words
   pub nodes : Agree k (SameNode g) same
@@ -54,7 +56,8 @@ pub record IsGraphOf (k : ℕ) (same : List ℕ → List ℕ → Type 0) (g : Gr
 pub record IsNumbering (count : ℕ) (classes : List ℕ) : Type 0 where
   pub within : (i : ℕ) → i < length classes → slice_index classes i < count
   pub used : (c : ℕ) → c < count → (i : ℕ) × (i < length classes) × (slice_index classes i ≡ c)
-  pub order : (i c : ℕ) → i < length classes → c < slice_index classes i → (j : ℕ) × (j < i) × (slice_index classes j ≡ c)
+  pub order : (i c : ℕ) → i < length classes → c < slice_index classes i → (j : ℕ) × (j < i)
+      × (slice_index classes j ≡ c)
 
 -- i is the least node of the class c
 pub record IsFirst (classes : List ℕ) (c i : ℕ) : Type 0 where
@@ -66,25 +69,31 @@ pub record IsFirst (classes : List ℕ) (c i : ℕ) : Type 0 where
 pub record IsPartition (g : Graph) (count : ℕ) (classes : List ℕ) : Type 0 where
   pub long : length classes ≡ g.size
   pub numbering : IsNumbering count classes
-  pub kept : (i j a : ℕ) → i < g.size → j < g.size → a < g.letters → slice_index classes i ≡ slice_index classes j → slice_index classes (target g i a) ≡ slice_index classes (target g j a)
+  pub kept : (i j a : ℕ) → i < g.size → j < g.size → a < g.letters
+      → slice_index classes i ≡ slice_index classes j
+      → slice_index classes (target g i a) ≡ slice_index classes (target g j a)
 
 -- the graph whose nodes are the classes of a partition
 pub record IsQuotient (g : Graph) (count : ℕ) (classes : List ℕ) (quotient : Graph) : Type 0 where
   pub size : quotient.size ≡ count
   pub letters : quotient.letters ≡ g.letters
   pub graph : IsGraph quotient
-  pub targets : (i a : ℕ) → i < g.size → a < g.letters → target quotient (slice_index classes i) a ≡ slice_index classes (target g i a)
+  pub targets : (i a : ℕ) → i < g.size → a < g.letters
+      → target quotient (slice_index classes i) a ≡ slice_index classes (target g i a)
 
 -- each class has the least word of its least node
 pub record AreFirstWords (count : ℕ) (classes : List ℕ) (words first : List (List ℕ)) : Type 0 where
   pub long : length first ≡ count
   pub at : (c i : ℕ) → c < count → IsFirst classes c i → word_at first c ≡ word_at words i
 
--- no word tells the nodes apart: it leads from both to marked nodes, or from both to nodes without a mark (Moore)
+-- no word tells the nodes apart: it leads from both to marked nodes, or from both to nodes without
+-- a mark (Moore)
 abbrev pub Alike : Graph → List Bool → ℕ → ℕ → Type 0
-Alike g marks i j = (w : List ℕ) → Over g.letters w → is_marked marks (walk g i w) ≡ is_marked marks (walk g j w)
+Alike g marks i j =
+    (w : List ℕ) → Over g.letters w → is_marked marks (walk g i w) ≡ is_marked marks (walk g j w)
 
 -- the coarsest partition that respects the marks and the letters
 pub record IsCoarsest (g : Graph) (marks : List Bool) (count : ℕ) (classes : List ℕ) : Type 0 where
   pub partition : IsPartition g count classes
-  pub alike : (i j : ℕ) → i < g.size → j < g.size → (slice_index classes i ≡ slice_index classes j) ↔ Alike g marks i j
+  pub alike : (i j : ℕ) → i < g.size → j < g.size → (slice_index classes i ≡ slice_index classes j)
+      ↔ Alike g marks i j

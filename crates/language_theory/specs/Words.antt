@@ -1,4 +1,5 @@
--- Words over the first k letters: lists of letter numbers (Pin, "Mathematical Foundations of Automata Theory": words, prefixes, factors, subwords, the shortlex order).
+-- Words over the first k letters: lists of letter numbers (Pin, "Mathematical Foundations of
+-- Automata Theory": words, prefixes, factors, subwords, the shortlex order).
 use Rattle.std.specs.Prelude.{◌≡◌, ◌<◌, ◌++◌, ℕ, zero, suc, List, [], ◌∷◌, length}
 use Rattle.std.specs.Prelude.{slice_index_or}
 use Rattle.std.specs.declared.cmp.Ordering.{Ordering}

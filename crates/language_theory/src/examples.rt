@@ -21,8 +21,10 @@ pub fn first_words_of_two_letters()
 /// In the list of 1, a, b, aa and ab, the word ab is a followed by its last letter b, and its first letter a followed by
 /// b.
 pub fn ab_has_a_prefix_and_a_suffix()
-    ensures prefix { IsPrefixLink ([] ∷ (0 ∷ []) ∷ (1 ∷ []) ∷ (0 ∷ 0 ∷ []) ∷ (0 ∷ 1 ∷ []) ∷ []) 4 1 1 }
-    ensures suffix { IsSuffixLink ([] ∷ (0 ∷ []) ∷ (1 ∷ []) ∷ (0 ∷ 0 ∷ []) ∷ (0 ∷ 1 ∷ []) ∷ []) 4 0 2 }
+    ensures prefix { IsPrefixLink ([] ∷ (0 ∷ []) ∷ (1 ∷ []) ∷ (0 ∷ 0 ∷ []) ∷ (0 ∷ 1 ∷ []) ∷ []) 4 1
+        1 }
+    ensures suffix { IsSuffixLink ([] ∷ (0 ∷ []) ∷ (1 ∷ []) ∷ (0 ∷ 0 ∷ []) ∷ (0 ∷ 1 ∷ []) ∷ []) 4 0
+        2 }
 {}
 
 /// The minimal automaton of (ab)* has the nodes of 1, a and b.

@@ -13,18 +13,28 @@ use crate::language::Language;
 /// Minimising: of a shortlex graph whose marked nodes are those of the language's words, the quotient by the coarsest
 /// partition is the minimal automaton.
 pub fn coarsest_quotient_is_minimal<L: Language>()
-    ensures { (k : ℕ) (g q : Graph) (words first : List (List ℕ)) (marks finals : List Bool) (count : ℕ) (classes : List ℕ) → IsShortlex g words → g.letters ≡ k → ((w : List ℕ) → Over k w → IsTrue (is_marked marks (node g w)) ↔ L.has w) → IsCoarsest g marks count classes → IsQuotient g count classes q → AreFirstWords count classes words first → length finals ≡ count → ((i : ℕ) → i < g.size → is_marked finals (slice_index classes i) ≡ is_marked marks i) → IsMinimal k L.has (record { graph = q; finals = finals; words = first }) }
+    ensures { (k : ℕ) (g q : Graph) (words first : List (List ℕ)) (marks finals : List Bool)
+        (count : ℕ) (classes : List ℕ) → IsShortlex g words → g.letters ≡ k
+        → ((w : List ℕ) → Over k w → IsTrue (is_marked marks (node g w)) ↔ L.has w)
+        → IsCoarsest g marks count classes → IsQuotient g count classes q
+        → AreFirstWords count classes words first → length finals ≡ count
+        → ((i : ℕ) → i < g.size → is_marked finals (slice_index classes i) ≡ is_marked marks i)
+        → IsMinimal k L.has (record { graph = q; finals = finals; words = first }) }
 {}
 
 /// A language has one minimal automaton, and so have languages with the same words over k letters.
 pub fn one_minimal_automaton<L: Language, M: Language>()
-    ensures one { (k : ℕ) (c d : MinimalAutomaton) → IsMinimal k L.has c → IsMinimal k L.has d → c ≡ d }
-    ensures agreeing { (k : ℕ) (d : MinimalAutomaton) → HaveSameWords k L.has M.has → IsMinimal k L.has d → IsMinimal k M.has d }
+    ensures one { (k : ℕ) (c d : MinimalAutomaton) → IsMinimal k L.has c → IsMinimal k L.has d
+        → c ≡ d }
+    ensures agreeing { (k : ℕ) (d : MinimalAutomaton) → HaveSameWords k L.has M.has
+        → IsMinimal k L.has d → IsMinimal k M.has d }
 {}
 
 /// In the minimal automaton words are Nerode equivalent exactly where they lead from the root to one node, and
 /// syntactically congruent exactly where they lead from each node to one node.
 pub fn minimal_nodes_tell_words_apart<L: Language>()
-    ensures nerode { (k : ℕ) (d : MinimalAutomaton) → IsMinimal k L.has d → Agree k (Nerode k L.has) (SameNode d.graph) }
-    ensures syntactic { (k : ℕ) (d : MinimalAutomaton) → IsMinimal k L.has d → Agree k (Syntactic k L.has) (MapsAlike d.graph.size (target d.graph)) }
+    ensures nerode { (k : ℕ) (d : MinimalAutomaton) → IsMinimal k L.has d
+        → Agree k (Nerode k L.has) (SameNode d.graph) }
+    ensures syntactic { (k : ℕ) (d : MinimalAutomaton) → IsMinimal k L.has d
+        → Agree k (Syntactic k L.has) (MapsAlike d.graph.size (target d.graph)) }
 {}

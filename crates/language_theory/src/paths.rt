@@ -16,15 +16,20 @@ pub fn acceptance_is_by_runs()
 
 /// A path with the letters of u v is one with those of u and then one with those of v.
 pub fn paths_are_joined()
-    ensures leads { (m : Automaton) (p : ℕ) (u v : List ℕ) (r : ℕ) → Leads m p (u ++ v) r ↔ ((q : ℕ) × Leads m p u q × Leads m q v r) }
-    ensures accepts { (m : Automaton) (u v : List ℕ) (p : ℕ) → AcceptsFrom m (u ++ v) p ↔ ((q : ℕ) × Leads m p u q × AcceptsFrom m v q) }
-    ensures behind { (m : Automaton) (u v : List ℕ) → Accepts m (u ++ v) ↔ ((q : ℕ) × IsReached m u q × AcceptsFrom m v q) }
-    ensures reached { (m : Automaton) (w : List ℕ) → Accepts m w ↔ ((r : ℕ) × IsReached m w r × IsTrue (is_final m r)) }
+    ensures leads { (m : Automaton) (p : ℕ) (u v : List ℕ) (r : ℕ) → Leads m p (u ++ v) r
+        ↔ ((q : ℕ) × Leads m p u q × Leads m q v r) }
+    ensures accepts { (m : Automaton) (u v : List ℕ) (p : ℕ) → AcceptsFrom m (u ++ v) p
+        ↔ ((q : ℕ) × Leads m p u q × AcceptsFrom m v q) }
+    ensures behind { (m : Automaton) (u v : List ℕ) → Accepts m (u ++ v)
+        ↔ ((q : ℕ) × IsReached m u q × AcceptsFrom m v q) }
+    ensures reached { (m : Automaton) (w : List ℕ) → Accepts m w
+        ↔ ((r : ℕ) × IsReached m w r × IsTrue (is_final m r)) }
 {}
 
 /// There is a step exactly where the target is listed.
 pub fn steps_are_listed()
-    ensures { (m : Automaton) (p a q : ℕ) → IsTrue (has_step m p a q) ↔ Contains (targets_of m p a) q }
+    ensures { (m : Automaton) (p a q : ℕ) → IsTrue (has_step m p a q)
+        ↔ Contains (targets_of m p a) q }
 {}
 
 /// Each word is accepted or is not.
@@ -36,13 +41,19 @@ pub fn acceptance_is_decided()
 /// construction).
 pub fn subsets_refine_nerode()
     ensures right { (k : ℕ) (m : Automaton) → IsRightCongruence k (SameSubset m) }
-    ensures finer { (k : ℕ) (m : Automaton) (u v : List ℕ) → SameSubset m u v → Nerode k (Accepts m) u v }
+    ensures finer { (k : ℕ) (m : Automaton) (u v : List ℕ) → SameSubset m u v
+        → Nerode k (Accepts m) u v }
 {}
 
 /// In a complete deterministic automaton a word leads from each state to exactly one state and reaches exactly one,
 /// and words are Nerode equivalent exactly where they reach states that accept the same words.
 pub fn deterministic_automata_have_one_path()
-    ensures leads { (m : Automaton) → IsCompleteDeterministic m → (w : List ℕ) (p : ℕ) → p < m.states → Over m.letters w → (q : ℕ) × IsOnly (Leads m p w) q }
-    ensures reaches { (m : Automaton) → IsCompleteDeterministic m → (w : List ℕ) → Over m.letters w → (q : ℕ) × IsOnly (IsReached m w) q }
-    ensures nerode { (m : Automaton) → IsCompleteDeterministic m → (u v : List ℕ) (p q : ℕ) → Over m.letters u → Over m.letters v → IsReached m u p → IsReached m v q → Nerode m.letters (Accepts m) u v ↔ ((w : List ℕ) → Over m.letters w → AcceptsFrom m w p ↔ AcceptsFrom m w q) }
+    ensures leads { (m : Automaton) → IsCompleteDeterministic m → (w : List ℕ) (p : ℕ)
+        → p < m.states → Over m.letters w → (q : ℕ) × IsOnly (Leads m p w) q }
+    ensures reaches { (m : Automaton) → IsCompleteDeterministic m → (w : List ℕ) → Over m.letters w
+        → (q : ℕ) × IsOnly (IsReached m w) q }
+    ensures nerode { (m : Automaton) → IsCompleteDeterministic m → (u v : List ℕ) (p q : ℕ)
+        → Over m.letters u → Over m.letters v → IsReached m u p → IsReached m v q
+        → Nerode m.letters (Accepts m) u v ↔ ((w : List ℕ) → Over m.letters w → AcceptsFrom m w p
+        ↔ AcceptsFrom m w q) }
 {}

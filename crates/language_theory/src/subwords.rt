@@ -24,18 +24,17 @@ pub fn subwords_are_ordered()
 /// subword, and a subword that is not the whole word is a subword of the word without some letter.
 pub fn subwords_are_left_by_deleting_letters()
     ensures deleted { (x y : List ℕ) (a : ℕ) → IsSubword (x ++ y) (x ++ a ∷ y) }
-    ensures some {
-        (u w : List ℕ) → IsSubword u w
-          → (u ≡ w) ⊎ ((x : List ℕ) × (a : ℕ) × (y : List ℕ) × (x ++ a ∷ y ≡ w) × IsSubword u (x ++ y))
-    }
+    ensures some { (u w : List ℕ) → IsSubword u w
+        → (u ≡ w) ⊎ ((x : List ℕ) × (a : ℕ) × (y : List ℕ) × (x ++ a ∷ y ≡ w)
+        × IsSubword u (x ++ y)) }
 {}
 
 /// The subwords of x y are those of x with those of y behind them.
 pub fn subwords_of_concatenations()
-    ensures joined { (u v x y : List ℕ) → IsSubword u x → IsSubword v y → IsSubword (u ++ v) (x ++ y) }
-    ensures split {
-        (x y z : List ℕ) → IsSubword z (x ++ y) → (u v : List ℕ) × (u ++ v ≡ z) × IsSubword u x × IsSubword v y
-    }
+    ensures joined { (u v x y : List ℕ) → IsSubword u x → IsSubword v y
+        → IsSubword (u ++ v) (x ++ y) }
+    ensures split { (x y z : List ℕ) → IsSubword z (x ++ y) → (u v : List ℕ) × (u ++ v ≡ z)
+        × IsSubword u x × IsSubword v y }
 {}
 
 /// A word is a subword of another one or is not.

@@ -30,11 +30,14 @@ pub fn shortlex_is_kept_by_concatenation()
 
 /// What holds of a word over k letters where it holds of each smaller one holds of every word over k letters.
 pub fn shortlex_allows_induction<L: Language>()
-    ensures { (k : ℕ) → ((w : List ℕ) → Over k w → ((u : List ℕ) → Over k u → u ⊏ w → L.has u) → L.has w) → (w : List ℕ) → Over k w → L.has w }
+    ensures { (k : ℕ) → ((w : List ℕ) → Over k w → ((u : List ℕ) → Over k u → u ⊏ w → L.has u)
+        → L.has w) → (w : List ℕ) → Over k w → L.has w }
 {}
 
 /// A set of words that is given by a test and has a word over k letters has exactly one least word.
 pub fn a_set_has_a_least_word()
-    ensures least { (k : ℕ) (test : List ℕ → Bool) (w : List ℕ) → Over k w → IsTrue (test w) → (v : List ℕ) × IsLeastWord k (λ u. IsTrue (test u)) v }
-    ensures one { (k : ℕ) (test : List ℕ → Bool) (u v : List ℕ) → IsLeastWord k (λ w. IsTrue (test w)) u → IsLeastWord k (λ w. IsTrue (test w)) v → u ≡ v }
+    ensures least { (k : ℕ) (test : List ℕ → Bool) (w : List ℕ) → Over k w → IsTrue (test w)
+        → (v : List ℕ) × IsLeastWord k (λ u. IsTrue (test u)) v }
+    ensures one { (k : ℕ) (test : List ℕ → Bool) (u v : List ℕ)
+        → IsLeastWord k (λ w. IsTrue (test w)) u → IsLeastWord k (λ w. IsTrue (test w)) v → u ≡ v }
 {}

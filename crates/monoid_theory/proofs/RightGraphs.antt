@@ -1,5 +1,5 @@
 -- The right Cayley graph of a right congruence is its shortlex graph.
-use Rattle.std.proofs.Common.{◌≡◌, ℕ, ◌+◌, ◌*◌, ◌/◌, ◌%◌, ◌<◌, List, [], ◌++◌, length, slice_index, slice_index_or, sym, ap, subst, arith}
+use Rattle.std.proofs.Common.{◌≡◌, ℕ, ◌+◌, ◌*◌, ◌/◌, ◌%◌, ◌<◌, List, ◌++◌, length, slice_index, slice_index_or, sym, subst, arith}
 use Rattle.std.proofs.lemmas.Grind.{get_or_default_zero}
 use Rattle.std.proofs.lemmas.Nat.{div-add-mod'}
 use Rattle.language_theory.specs.Words.{Over, word_at}
@@ -12,18 +12,26 @@ use Rattle.language_theory.proofs.Representatives.{place_is_one, place_of_relate
 use Rattle.language_theory.proofs.Graphs.{row_of, row_positive}
 use Rattle.monoid_theory.proofs.Cayley.{right_walk}
 
-module _ (k : ℕ) (same : List ℕ → List ℕ → Type 0) (words : List (List ℕ)) (c : IsRightCongruence k same) (l : AreRepresentatives k same words) (g : Graph) (h : IsRightGraph k same words g) where
+module _ (k : ℕ) (same : List ℕ → List ℕ → Type 0) (words : List (List ℕ))
+    (c : IsRightCongruence k same) (l : AreRepresentatives k same words) (g : Graph)
+    (h : IsRightGraph k same words g) where
   -- a word leads from the root to its place
   at : (w : List ℕ) → Over k w → IsPlaceOf same words w (node g w)
-  at w o = subst (λ (x : List ℕ). IsPlaceOf same words (x ++ w) (node g w)) (first_is_empty k same words l c.equivalence)
-    (right_walk k same words c l g h w 0 (list_is_not_empty k same words l) o)
+  at w o =
+      subst (λ (x : List ℕ). IsPlaceOf same words (x ++ w) (node g w))
+      (first_is_empty k same words l c.equivalence)
+      (right_walk k same words c l g h w 0 (list_is_not_empty k same words l) o)
 
   nodes : Agree k (SameNode g) same
-  nodes = record { both = λ u v ou ov. (
-    λ e. same_place_related k same words l c.equivalence u v (node g v) ou ov (subst (IsPlaceOf same words u) e (at u ou)) (at v ov),
-    λ s. place_is_one same words v (node g u) (node g v)
-      (place_of_related k same words l c.equivalence u v (node g u) ou ov s (at u ou)) (at v ov),
-  ) }
+  nodes = record {
+    both = λ u v ou ov. (
+      λ e. same_place_related k same words l c.equivalence u v (node g v) ou ov
+          (subst (IsPlaceOf same words u) e (at u ou)) (at v ov),
+      λ s. place_is_one same words v (node g u) (node g v)
+          (place_of_related k same words l c.equivalence u v (node g u) ou ov s (at u ou))
+          (at v ov),
+    );
+  }
 
   within : (p d : ℕ) → p < length g.targets → slice_index_or g.targets p d < g.size
   within p d b = subst (λ (t : ℕ). t < g.size) (sym (get_or_default_zero g.targets p d b)) inside
@@ -47,14 +55,23 @@ module _ (k : ℕ) (same : List ℕ → List ℕ → Type 0) (words : List (List
       inside =
           let e = h.size in
           let f = h.letters in
-          let t = (h.edge (p / n) (p % n) (let r = row in omega arith) (let r = column in omega arith)).place.within in
+          let t = (h.edge (p / n) (p % n) (let r = row in omega arith) (let r = column in
+          omega arith)).place.within in
           subst (λ (q : ℕ). slice_index g.targets q < g.size) split (omega arith)
 
   graph : IsGraph g
-  graph = record { root = let e = h.size in let f = list_is_not_empty k same words l in omega arith; long = h.long; within = within }
+  graph =
+      record {
+        root = let e = h.size in let f = list_is_not_empty k same words l in
+            omega arith;
+        long = h.long;
+        within = within;
+      }
 
   leads : (i : ℕ) → i < length words → node g (word_at words i) ≡ i
-  leads i b = place_is_one same words (word_at words i) (node g (word_at words i)) i (at (word_at words i) (l.over i b)) (place_of_listed k same words l c.equivalence i b)
+  leads i b =
+      place_is_one same words (word_at words i) (node g (word_at words i)) i
+      (at (word_at words i) (l.over i b)) (place_of_listed k same words l c.equivalence i b)
 
   pub right_is_graph : IsGraphOf k same g words
   right_is_graph = record {
@@ -63,7 +80,8 @@ module _ (k : ℕ) (same : List ℕ → List ℕ → Type 0) (words : List (List
       graph = graph;
       long = sym h.size;
       leads = λ i b. leads i (let e = h.size in omega arith);
-      least = subst (λ (n : ℕ). AreRepresentatives n (SameNode g) words) (sym h.letters) (agreeing_list k same (SameNode g) (agree_turned k (SameNode g) same nodes) words l);
+      least = subst (λ (n : ℕ). AreRepresentatives n (SameNode g) words) (sym h.letters)
+          (agreeing_list k same (SameNode g) (agree_turned k (SameNode g) same nodes) words l);
     };
     nodes = nodes;
   }

@@ -16,15 +16,19 @@ rest_holds : (a b : Bool) → cond a b false ≡ true → b ≡ true
 rest_holds true b e = e
 rest_holds false b e = cc
 
-pub at_every : (n : ℕ) (test : ℕ → Bool) → every_below n test ≡ true → (i : ℕ) → i < n → test i ≡ true
+pub at_every : (n : ℕ) (test : ℕ → Bool) → every_below n test ≡ true → (i : ℕ) → i < n
+    → test i ≡ true
 at_every zero test e i h = absurd (omega arith)
 at_every (suc n) test e i h = elim (cases_lt i n) [
   | inl l ↦ at_every n test (rest_holds (test n) (every_below n test) e) i l
-  | inr l ↦ subst (λ (j : ℕ). test j ≡ true) (let f : n ≡ i = omega arith in f) (first_holds (test n) (every_below n test) e)
+  | inr l ↦ subst (λ (j : ℕ). test j ≡ true) (let f : n ≡ i = omega arith in f)
+      (first_holds (test n) (every_below n test) e)
 ]
 
-pub at_every_two : (n m : ℕ) (test : ℕ → ℕ → Bool) → every_below n (λ i. every_below m (test i)) ≡ true → (i j : ℕ) → i < n → j < m → test i j ≡ true
-at_every_two n m test e i j h g = at_every m (test i) (at_every n (λ i. every_below m (test i)) e i h) j g
+pub at_every_two : (n m : ℕ) (test : ℕ → ℕ → Bool) → every_below n (λ i. every_below m (test i))
+    ≡ true → (i j : ℕ) → i < n → j < m → test i j ≡ true
+at_every_two n m test e i j h g =
+    at_every m (test i) (at_every n (λ i. every_below m (test i)) e i h) j g
 
 -- what a test says under a premise
 pub under : (a b : Bool) → cond a b true ≡ true → a ≡ true → b ≡ true

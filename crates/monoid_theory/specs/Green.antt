@@ -1,4 +1,6 @@
--- Green's relations of the monoid of a congruence, stated on words: equality in the monoid is the congruence `same`. Where the elements are numbers, the values of words, `same u v` is `value u ≡ value v` (Green 1951; Pin: Green's relations).
+-- Green's relations of the monoid of a congruence, stated on words: equality in the monoid is the
+-- congruence `same`. Where the elements are numbers, the values of words, `same u v` is `value u ≡
+-- value v` (Green 1951; Pin: Green's relations).
 use Rattle.std.specs.Prelude.{◌≡◌, ◌<◌, ◌++◌, ℕ, List, length, slice_index}
 use Rattle.language_theory.specs.Words.{Over, word_at}
 
@@ -38,12 +40,15 @@ IsD k same s t = (z : List ℕ) × Over k z × IsR k same s z × IsL k same z t
 abbrev pub IsIdempotent : (List ℕ → List ℕ → Type 0) → List ℕ → Type 0
 IsIdempotent same s = same (s ++ s) s
 
--- the places of the listed words that are related to s, each once, in rising order: of H, the elements of a cell
-pub record AreMembers (relation : List ℕ → List ℕ → Type 0) (words : List (List ℕ)) (s : List ℕ) (places : List ℕ) : Type 0 where
+-- the places of the listed words that are related to s, each once, in rising order: of H, the
+-- elements of a cell
+pub record AreMembers (relation : List ℕ → List ℕ → Type 0) (words : List (List ℕ)) (s : List ℕ)
+    (places : List ℕ) : Type 0 where
   pub within : (n : ℕ) → n < length places → slice_index places n < length words
   pub rise : (m n : ℕ) → m < n → n < length places → slice_index places m < slice_index places n
   pub each : (n : ℕ) → n < length places → relation (word_at words (slice_index places n)) s
-  pub all : (i : ℕ) → i < length words → relation (word_at words i) s → (n : ℕ) × (n < length places) × (slice_index places n ≡ i)
+  pub all : (i : ℕ) → i < length words → relation (word_at words i) s
+      → (n : ℕ) × (n < length places) × (slice_index places n ≡ i)
 
 -- each class of a relation such as R, L or J has one element
 pub record IsTrivial (k : ℕ) (same relation : List ℕ → List ℕ → Type 0) : Type 0 where

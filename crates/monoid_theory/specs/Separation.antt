@@ -1,4 +1,5 @@
--- Contexts that tell two words apart. Which context stands for all, the least one, is this project's choice.
+-- Contexts that tell two words apart. Which context stands for all, the least one, is this
+-- project's choice.
 use Rattle.std.specs.Prelude.{◌≡◌, ◌<◌, ◌++◌, ℕ, List}
 use Rattle.language_theory.specs.Words.{Over}
 use Rattle.language_theory.specs.Languages.{ExactlyOne, IsLeastWord}
@@ -12,7 +13,8 @@ Separates L s t u v = ExactlyOne (L (u ++ (s ++ v))) (L (u ++ (t ++ v)))
 abbrev pub CanSeparate : ℕ → (List ℕ → Type 0) → List ℕ → List ℕ → List ℕ → Type 0
 CanSeparate k L s t u = (v : List ℕ) × Over k v × Separates L s t u v
 
--- u is the least word that together with some v separates s and t, and v the least such word for that u
+-- u is the least word that together with some v separates s and t, and v the least such word for
+-- that u
 pub record IsSeparation (k : ℕ) (L : List ℕ → Type 0) (s t u v : List ℕ) : Type 0 where
   pub before : IsLeastWord k (CanSeparate k L s t) u
   pub behind : IsLeastWord k (Separates L s t u) v

@@ -1,4 +1,4 @@
-use Rattle.language_theory.proofs.Shortlex.{shortlex_total, shortlex_irrefl, shortlex_asymm, shortlex_equal, shortlex_trichotomy, none_before_nil}
+use Rattle.language_theory.proofs.Shortlex.{shortlex_total, shortlex_irrefl, shortlex_asymm, shortlex_equal, shortlex_trichotomy, shortlex_nil}
 use Rattle.language_theory.proofs.words.shortlex_is_a_total_order.Goals as goal
 
 pub returns-clause-total : goal.returns-clause-total
@@ -17,4 +17,4 @@ pub returns-clause-one_of_three : goal.returns-clause-one_of_three
 returns-clause-one_of_three c = shortlex_trichotomy
 
 pub returns-clause-first : goal.returns-clause-first
-returns-clause-first c = none_before_nil
+returns-clause-first c = shortlex_nil
