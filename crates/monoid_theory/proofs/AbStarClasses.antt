@@ -4,7 +4,7 @@ use Rattle.std.proofs.lemmas.Bool.{eqb-true, ltb-true}
 use Rattle.language_theory.specs.Words.{Over}
 use Rattle.language_theory.specs.Congruence.{Syntactic}
 use Rattle.language_theory.specs.ShortlexGraph.{target, walk, node, SameNode}
-use Rattle.monoid_theory.specs.Green.{IsR, IsL, IsJ, IsIdempotent}
+use Rattle.monoid_theory.specs.Green.{IsR, IsL, IsJ, IsH, IsIdempotent}
 use Rattle.language_theory.specs.Examples.{IsAbStar}
 use Rattle.monoid_theory.specs.Examples.{ab_star_monoid}
 use Rattle.monoid_theory.proofs.SmallTests.{at_every, at_every_two}
@@ -121,3 +121,18 @@ one_not_j_a ((x, y, ox, oy, s), t) =
     never_back (target ab_star_monoid i 0) y g
     (target_within ab_star_monoid i 0 graph l (omega arith)) oy in
     omega (arith, e, f, m)
+
+-- no word that ends with ab is congruent to a
+never_a : (i : ℕ) → i < 6 → 1 < walk ab_star_monoid i (0 ∷ 1 ∷ [])
+never_a i h =
+    ltb-true 1 (walk ab_star_monoid i (0 ∷ 1 ∷ []))
+      (at_every 6 (λ i. ltb 1 (walk ab_star_monoid i (0 ∷ 1 ∷ []))) refl i h)
+
+pub a_not_h_ab : ¬ IsH 2 (Syntactic 2 IsAbStar) (0 ∷ []) (0 ∷ 1 ∷ [])
+a_not_h_ab (r, ((x, ox, s), l)) =
+    let xab = over_append 2 x (0 ∷ 1 ∷ []) ox ab in
+    let e : 1 ≡ node ab_star_monoid (x ++ (0 ∷ 1 ∷ [])) =
+      (ab_star_monoid_graph.nodes.both (0 ∷ []) (x ++ (0 ∷ 1 ∷ [])) a xab).1 s in
+    let f = walk_append ab_star_monoid 0 x (0 ∷ 1 ∷ []) in
+    let g = never_a (node ab_star_monoid x) (node_within ab_star_monoid x graph ox) in
+    omega (arith, e, f, g)

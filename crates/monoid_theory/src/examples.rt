@@ -5,7 +5,7 @@ ghost use Rattle.language_theory.specs.Congruence.{Syntactic};
 ghost use Rattle.language_theory.specs.ShortlexGraph.{IsGraphOf};
 ghost use Rattle.language_theory.specs.Examples.{IsAbStar};
 ghost use Rattle.monoid_theory.specs.Presentation.{AreRules};
-ghost use Rattle.monoid_theory.specs.Green.{IsR, IsL, IsJ, IsIdempotent};
+ghost use Rattle.monoid_theory.specs.Green.{IsR, IsL, IsJ, IsH, IsIdempotent};
 ghost use Rattle.monoid_theory.specs.Powers.{IsIndexAndPeriod, NeverSettle};
 ghost use Rattle.monoid_theory.specs.Examples.{ab_star_monoid, ab_star_elements, ab_star_rules, IsEven};
 
@@ -19,7 +19,8 @@ pub fn ab_star_has_six_rules()
     ensures { AreRules 2 (Syntactic 2 IsAbStar) ab_star_elements ab_star_rules }
 {}
 
-/// Its J-classes are {1}, {a, ab, b, ba} and {aa}; a and ab are in one R-class, a and ba in one L-class.
+/// Its J-classes are {1}, {a, ab, b, ba} and {aa}; a and ab are in one R-class, a and ba in one L-class, and a and ab in
+/// different H-classes.
 pub fn ab_star_has_three_boxes()
     ensures a_ab { IsR 2 (Syntactic 2 IsAbStar) (0 ∷ []) (0 ∷ 1 ∷ []) }
     ensures b_ba { IsR 2 (Syntactic 2 IsAbStar) (1 ∷ []) (1 ∷ 0 ∷ []) }
@@ -29,6 +30,7 @@ pub fn ab_star_has_three_boxes()
     ensures a_aa { ¬ IsJ 2 (Syntactic 2 IsAbStar) (0 ∷ []) (0 ∷ 0 ∷ []) }
     ensures one_a { ¬ IsJ 2 (Syntactic 2 IsAbStar) [] (0 ∷ []) }
     ensures one_aa { ¬ IsJ 2 (Syntactic 2 IsAbStar) [] (0 ∷ 0 ∷ []) }
+    ensures cells { ¬ IsH 2 (Syntactic 2 IsAbStar) (0 ∷ []) (0 ∷ 1 ∷ []) }
     ensures idempotent { IsIdempotent (Syntactic 2 IsAbStar) (0 ∷ 1 ∷ []) }
 {}
 

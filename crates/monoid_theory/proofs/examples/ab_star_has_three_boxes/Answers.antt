@@ -1,4 +1,4 @@
-use Rattle.monoid_theory.proofs.AbStarClasses.{a_r_ab, b_r_ba, a_l_ba, b_l_ab, a_j_b, a_not_j_aa, one_not_j_a, one_not_j_aa, ab_idempotent}
+use Rattle.monoid_theory.proofs.AbStarClasses.{a_r_ab, b_r_ba, a_l_ba, b_l_ab, a_j_b, a_not_j_aa, one_not_j_a, one_not_j_aa, ab_idempotent, a_not_h_ab}
 use Rattle.monoid_theory.proofs.examples.ab_star_has_three_boxes.Goals as goal
 
 pub returns-clause-a_ab : goal.returns-clause-a_ab
@@ -27,3 +27,6 @@ returns-clause-idempotent c = ab_idempotent
 
 pub returns-clause-one_aa : goal.returns-clause-one_aa
 returns-clause-one_aa c = one_not_j_aa
+
+pub returns-clause-cells : goal.returns-clause-cells
+returns-clause-cells c = a_not_h_ab
