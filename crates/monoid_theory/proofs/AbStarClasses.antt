@@ -126,13 +126,13 @@ one_not_j_a ((x, y, ox, oy, s), t) =
 never_a : (i : ℕ) → i < 6 → 1 < walk ab_star_monoid i (0 ∷ 1 ∷ [])
 never_a i h =
     ltb-true 1 (walk ab_star_monoid i (0 ∷ 1 ∷ []))
-      (at_every 6 (λ i. ltb 1 (walk ab_star_monoid i (0 ∷ 1 ∷ []))) refl i h)
+    (at_every 6 (λ i. ltb 1 (walk ab_star_monoid i (0 ∷ 1 ∷ []))) refl i h)
 
 pub a_not_h_ab : ¬ IsH 2 (Syntactic 2 IsAbStar) (0 ∷ []) (0 ∷ 1 ∷ [])
 a_not_h_ab (r, ((x, ox, s), l)) =
     let xab = over_append 2 x (0 ∷ 1 ∷ []) ox ab in
     let e : 1 ≡ node ab_star_monoid (x ++ (0 ∷ 1 ∷ [])) =
-      (ab_star_monoid_graph.nodes.both (0 ∷ []) (x ++ (0 ∷ 1 ∷ [])) a xab).1 s in
+    (ab_star_monoid_graph.nodes.both (0 ∷ []) (x ++ (0 ∷ 1 ∷ [])) a xab).1 s in
     let f = walk_append ab_star_monoid 0 x (0 ∷ 1 ∷ []) in
     let g = never_a (node ab_star_monoid x) (node_within ab_star_monoid x graph ox) in
     omega (arith, e, f, g)

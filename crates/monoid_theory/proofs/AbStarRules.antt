@@ -36,8 +36,8 @@ by_places : (i a b s : ℕ) → a < 2 → i < 6 → IsSuffixLink ab_star_element
     → IsRule 2 (Syntactic 2 IsAbStar) ab_star_elements (word_at ab_star_elements i ++ a ∷ [])
     (target ab_star_monoid i a)
     ↔ (¬ (word_at ab_star_elements (target ab_star_monoid i a)
-        ≡ word_at ab_star_elements i ++ a ∷ [])
-      × (word_at ab_star_elements (target ab_star_monoid s a) ≡ word_at ab_star_elements s ++ a ∷ []))
+    ≡ word_at ab_star_elements i ++ a ∷ [])
+    × (word_at ab_star_elements (target ab_star_monoid s a) ≡ word_at ab_star_elements s ++ a ∷ []))
 by_places i a b s ha hi link =
     rule_by_places 2 (Syntactic 2 IsAbStar) ab_star_elements congruence.equivalence list i a
     (target ab_star_monoid i a) b s (target ab_star_monoid s a) ha (right i a hi ha) link

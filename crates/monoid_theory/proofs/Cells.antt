@@ -204,7 +204,7 @@ module _ (k : ℕ) (same : List ℕ → List ℕ → Type 0) (c : IsCongruence k
     into = λ u ou h. g.into (f.image u) (f.over u ou) (f.into u ou h);
     one = λ u v ou ov h d e. f.one u v ou ov h d
         (g.one (f.image u) (f.image v) (f.over u ou) (f.over v ov) (f.into u ou h)
-          (f.into v ov d) e);
+        (f.into v ov d) e);
   }
 
 -- a choice for each number below N, as a function

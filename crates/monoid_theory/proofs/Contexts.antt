@@ -185,7 +185,7 @@ module _ (k : ℕ) (L : List ℕ → Type 0) (d : MinimalAutomaton) (h : IsMinim
   -- a word separates before where the words part at its node
   pub can_separate_by_parting : (s t u : List ℕ) → Over k s → Over k t → Over k u
       → CanSeparate k L s t u
-        ↔ ¬ (walk d.graph (node d.graph u) s ≡ walk d.graph (node d.graph u) t)
+      ↔ ¬ (walk d.graph (node d.graph u) s ≡ walk d.graph (node d.graph u) t)
   can_separate_by_parting s t u os ot ou =
       rw (walk_from_word u s, walk_from_word u t) (can_separate_by_nodes s t u os ot ou)
 
@@ -211,7 +211,7 @@ module _ (k : ℕ) (L : List ℕ → Type 0) (d : MinimalAutomaton) (h : IsMinim
       ⊎ ((i : ℕ) → i < d.graph.size → walk d.graph i s ≡ walk d.graph i t)
   parting_or_none s t =
       elim (least_or_none (λ i. ¬ (walk d.graph i s ≡ walk d.graph i t)) parts_or_not
-          d.graph.size) [
+      d.graph.size) [
         | inl (i, l, p, before) ↦ inl (
           i,
           record {

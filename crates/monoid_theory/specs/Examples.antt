@@ -15,10 +15,8 @@ ab_star_elements = [] ∷ (0 ∷ []) ∷ (1 ∷ []) ∷ (0 ∷ 0 ∷ []) ∷ (0 
 -- its rules: bb to aa, aaa to aa, aab to aa, aba to a, baa to aa, bab to b
 abbrev pub ab_star_rules : List (List ℕ × ℕ)
 ab_star_rules =
-    (1 ∷ 1 ∷ [], 3) ∷ (0 ∷ 0 ∷ 0 ∷ [], 3) ∷ (0 ∷ 0 ∷ 1 ∷ [], 3) ∷ (
-      0 ∷ 1 ∷ 0 ∷ [],
-      1,
-    ) ∷ (1 ∷ 0 ∷ 0 ∷ [], 3) ∷ (1 ∷ 0 ∷ 1 ∷ [], 2) ∷ []
+    (1 ∷ 1 ∷ [], 3) ∷ (0 ∷ 0 ∷ 0 ∷ [], 3) ∷ (0 ∷ 0 ∷ 1 ∷ [], 3)
+    ∷ (0 ∷ 1 ∷ 0 ∷ [], 1) ∷ (1 ∷ 0 ∷ 0 ∷ [], 3) ∷ (1 ∷ 0 ∷ 1 ∷ [], 2) ∷ []
 
 -- some number of times aa, over the one letter a
 abbrev pub IsEven : List ℕ → Type 0

@@ -28,8 +28,8 @@ pub record AreRules (k : ℕ) (same : List ℕ → List ℕ → Type 0) (words :
       → (n : ℕ) × (n < length rules) × (rule_at rules n ≡ (left, right))
 
 -- one replacement: a left side inside u gives way to the listed word of its right side
-pub record IsReplacement (words : List (List ℕ)) (rules : List (List ℕ × ℕ)) (u v : List ℕ) : Type
-    0 where
+pub record IsReplacement (words : List (List ℕ)) (rules : List (List ℕ × ℕ))
+    (u v : List ℕ) : Type 0 where
   pub rule : ℕ
   pub within : rule < length rules
   pub before : List ℕ
