@@ -7,6 +7,7 @@ use Rattle.language_theory.specs.Words.{Over, word_at, ◌⊏◌}
 use Rattle.language_theory.specs.Representatives.{AreRepresentatives, IsReduced}
 use Rattle.language_theory.specs.Congruence.{IsEquivalence, IsRightCongruence, IsCongruence, Agree, MapsAlike}
 use Rattle.language_theory.specs.Languages.{IsLeastWord}
+use Rattle.language_theory.specs.Links.{IsPrefixLink}
 use Rattle.language_theory.specs.ShortlexGraph.{Graph, target, walk, node, SameNode, IsGraph, IsShortlex, IsGraphOf}
 use Rattle.language_theory.proofs.Shortlex.{shortlex_nil, over_last, shortlex_trans}
 use Rattle.language_theory.proofs.Representatives.{reduced_is_listed, listed_is_reduced, reduced_prefix, one_list, agreeing_list, agreeing_equivalence}
@@ -95,6 +96,15 @@ module _ (g : Graph) (words : List (List ℕ)) (s : IsShortlex g words) where
       let (j, m, f) = reduced_is_listed g.letters (SameNode g) words s.least [] r in
       let at : j ≡ 0 = sym (s.leads j (let d = s.long in omega arith)) ∙ ap (node g) f in
       ap (word_at words) (sym at) ∙ f
+
+  -- the edge with the last letter leads from the node of the prefix to the node
+  pub prefix_link_edge : (i p a : ℕ) → IsPrefixLink words i p a → target g p a ≡ i
+  prefix_link_edge i p a f =
+      let long = s.long in
+      let from = s.leads p (let h = f.prefix in omega arith) in
+      let to = s.leads i (let h = f.whole in omega arith) in
+      sym (ap (λ (j : ℕ). target g j a) from)
+      ∙ (sym (walk_append g 0 (word_at words p) (a ∷ [])) ∙ (ap (node g) (sym f.splits) ∙ to))
 
   -- of the nodes with a property, the first has the least word
   pub first_node_least : (P : ℕ → Type 0) (i : ℕ) → i < g.size → P i → ((j : ℕ) → j < i → ¬ P j)

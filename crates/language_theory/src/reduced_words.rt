@@ -1,7 +1,7 @@
 //! Laws of lists of least representatives (Froidure and Pin 1997: reduced words).
 
-ghost use Rattle.std.specs.Prelude.{◌≡◌, ◌<◌, ◌++◌, ◌↔◌, ◌⊎◌, ℕ, List, length};
-ghost use Rattle.language_theory.specs.Words.{Over, IsFactor, word_at};
+ghost use Rattle.std.specs.Prelude.{◌≡◌, ◌<◌, ◌↔◌, ◌⊎◌, ℕ, List, length};
+ghost use Rattle.language_theory.specs.Words.{Over, IsPrefix, IsFactor, word_at};
 ghost use Rattle.language_theory.specs.Representatives.{AreRepresentatives, IsReduced, HasMoreClasses, HaveAsManyClasses};
 ghost use Rattle.language_theory.specs.Links.{IsPrefixLink, IsSuffixLink};
 ghost use Rattle.language_theory.specs.Congruence.{IsEquivalence, IsRightCongruence, IsCongruence, Agree};
@@ -33,8 +33,8 @@ pub fn listed_words_are_the_reduced<R: Relation>()
 
 /// A prefix of a reduced word of a right congruence is reduced, and so is a factor of a reduced word of a congruence.
 pub fn parts_of_reduced_words_are_reduced<R: Relation>()
-    ensures prefixes { (k : ℕ) (u v : List ℕ) → IsRightCongruence k R.same
-        → IsReduced k R.same (u ++ v) → IsReduced k R.same u }
+    ensures prefixes { (k : ℕ) (u w : List ℕ) → IsRightCongruence k R.same → IsReduced k R.same w
+        → IsPrefix u w → IsReduced k R.same u }
     ensures factors { (k : ℕ) (u w : List ℕ) → IsCongruence k R.same → IsReduced k R.same w
         → IsFactor u w → IsReduced k R.same u }
 {}

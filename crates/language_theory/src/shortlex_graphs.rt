@@ -1,9 +1,10 @@
 //! Laws of shortlex graphs and of their quotients.
 
 ghost use Rattle.std.specs.Prelude.{◌≡◌, ◌<◌, ◌+◌, ◌*◌, ◌++◌, ◌∷◌, ◌↔◌, [], ℕ, List, length, slice_index};
-ghost use Rattle.language_theory.specs.Words.{Over, ◌⊏◌, word_at};
+ghost use Rattle.language_theory.specs.Words.{Over, IsPrefix, ◌⊏◌, word_at};
 ghost use Rattle.language_theory.specs.Congruence.{IsRightCongruence, IsCongruence, Agree, MapsAlike};
 ghost use Rattle.language_theory.specs.Languages.{IsLeastWord};
+ghost use Rattle.language_theory.specs.Links.{IsPrefixLink};
 ghost use Rattle.language_theory.specs.ShortlexGraph.{Graph, target, walk, node, SameNode, IsGraph, IsShortlex, IsGraphOf, IsNumbering, IsFirst, LeadsNonempty, IsPartition, IsQuotient, AreFirstWords};
 
 use crate::language::{Property, Relation};
@@ -30,9 +31,14 @@ pub fn one_shortlex_graph<R: Relation, S: Relation>()
 /// leads.
 pub fn least_words_are_closed_under_prefixes()
     ensures root { (g : Graph) (words : List (List ℕ)) → IsShortlex g words → word_at words 0 ≡ [] }
-    ensures prefix { (g : Graph) (words : List (List ℕ)) → IsShortlex g words
-        → (i : ℕ) (u v : List ℕ) → i < g.size → word_at words i ≡ u ++ v → word_at words (node g u)
-        ≡ u }
+    ensures prefix { (g : Graph) (words : List (List ℕ)) → IsShortlex g words → (i : ℕ) (u : List ℕ)
+        → i < g.size → IsPrefix u (word_at words i) → word_at words (node g u) ≡ u }
+{}
+
+/// In a shortlex graph the edge with the last letter of a node's word leads from the node of its prefix to the node.
+pub fn prefix_links_are_edges()
+    ensures { (g : Graph) (words : List (List ℕ)) → IsShortlex g words → (i p a : ℕ)
+        → IsPrefixLink words i p a → target g p a ≡ i }
 {}
 
 /// A graph is a shortlex graph where its words begin with the empty one, rise, lead to their nodes, and no word of a
