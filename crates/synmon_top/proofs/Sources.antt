@@ -5,6 +5,7 @@ use Rattle.language_theory.specs.Automaton.{Automaton, Accepts, SameSubset}
 use Rattle.language_theory.specs.Representatives.{HasMoreClasses}
 use Rattle.language_theory.specs.Nerode.{MinimalAutomaton, IsMinimal}
 use Rattle.language_theory.proofs.Minimal.{agreeing_minimal}
+use Rattle.language_theory.proofs.Representatives.{agreeing_classes}
 use Rattle.automaton_file.specs.FileText.{SourceText, BodyText, OfAutomaton, OfExpression, IsSoundBody, IsSoundSource, IsBodyAutomaton, language_of}
 use Rattle.automaton_file.proofs.SameAutomata.{one_body_automaton, same_subsets}
 use Rattle.synmon_top.specs.Report.{HasMoreSubsets}
@@ -14,16 +15,11 @@ body_letters : (k : ℕ) (body : BodyText) (m : Automaton) → IsSoundBody k bod
 body_letters k (OfAutomaton n) m sound is = ap (λ (x : Automaton). x.letters) is ∙ sound.1
 body_letters k (OfExpression t) m sound is = is.letters
 
--- relations that agree have as many classes
-more_classes : (k n : ℕ) (same alike : List ℕ → List ℕ → Type 0) → ((u v : List ℕ) → same u v ↔ alike u v) → HasMoreClasses k same n → HasMoreClasses k alike n
-more_classes k n same alike agree (words, long, apart) =
-    (words, long, record { over = apart.over; apart = λ i j l h r. apart.apart i j l h ((agree _ _).1 r) })
-
 -- its minimal automaton is that of the source's language
 pub minimal_of_source : (source : SourceText) (m : Automaton) (d : MinimalAutomaton) → IsSoundSource source → IsBodyAutomaton (length source.letters) source.body m
     → ((w : List ℕ) → Accepts m w ↔ language_of source w) → IsMinimal m.letters (Accepts m) d → IsMinimal (length source.letters) (language_of source) d
 minimal_of_source source m d sound is same minimal =
-    agreeing_minimal (length source.letters) (Accepts m) (language_of source) d (λ w o. same w)
+    agreeing_minimal (length source.letters) (Accepts m) (language_of source) d (record { both = λ w o. same w })
     (subst (λ k. IsMinimal k (Accepts m) d) (body_letters (length source.letters) source.body m sound.body is) minimal)
 
 -- where its sets of states are not too many, those of the source are not
@@ -31,7 +27,9 @@ pub few_of_source : (source : SourceText) (m : Automaton) (n : ℕ) → IsSoundS
     → ¬ HasMoreClasses m.letters (SameSubset m) n → ¬ HasMoreSubsets source n
 few_of_source source m n sound is few (a, is_too, more) =
     few (subst (λ k. HasMoreClasses k (SameSubset m) n) (sym (body_letters (length source.letters) source.body m sound.body is))
-    (more_classes (length source.letters) n (SameSubset a) (SameSubset m) (same_subsets a m (one_body_automaton (length source.letters) source.body a m is_too is)) more))
+    (((agreeing_classes (length source.letters) (SameSubset a) (SameSubset m) (record {
+      both = λ u v _ _. same_subsets a m (one_body_automaton (length source.letters) source.body a m is_too is) u v;
+    })).both n).0 more))
 
 -- where they are too many, so are those of the source
 pub many_of_source : (source : SourceText) (m : Automaton) (n : ℕ) → IsSoundSource source → IsBodyAutomaton (length source.letters) source.body m
