@@ -4,7 +4,7 @@ ghost use Rattle.std.specs.Prelude.{◌≡◌, ◌<◌, ◌↔◌, ℕ, Bool, Is
 ghost use Rattle.language_theory.specs.Words.{Over};
 ghost use Rattle.language_theory.specs.Automaton.{is_marked};
 ghost use Rattle.language_theory.specs.Congruence.{Syntactic, MapsAlike};
-ghost use Rattle.language_theory.specs.Nerode.{Nerode, IsMinimal, MinimalAutomaton};
+ghost use Rattle.language_theory.specs.Nerode.{Nerode, IsMinimal, MinimalAutomaton, accepted};
 ghost use Rattle.language_theory.specs.ShortlexGraph.{Graph, node, target, walk, SameNode, IsShortlex, IsQuotient, AreFirstWords, IsCoarsest};
 
 use crate::language::Language;
@@ -27,4 +27,10 @@ pub fn minimal_nodes_tell_words_apart<L: Language>()
     ensures nerode { (k : ℕ) (d : MinimalAutomaton) → IsMinimal k L.has d → (u v : List ℕ) → Over k u → Over k v → Nerode k L.has u v ↔ SameNode d.graph u v }
     ensures syntactic { (k : ℕ) (d : MinimalAutomaton) → IsMinimal k L.has d → (u v : List ℕ) → Over k u → Over k v → Syntactic k L.has u v ↔ ((i : ℕ) → i < d.graph.size → walk d.graph i u ≡ walk d.graph i v) }
     ensures maps { (k : ℕ) (d : MinimalAutomaton) → IsMinimal k L.has d → (u v : List ℕ) → Over k u → Over k v → Syntactic k L.has u v ↔ MapsAlike d.graph.size (target d.graph) u v }
+{}
+
+/// A language's minimal automaton accepts that language, and is the minimal automaton of the language that it accepts.
+pub fn minimal_automata_accept_their_languages<L: Language>()
+    ensures words { (k : ℕ) (d : MinimalAutomaton) → IsMinimal k L.has d → (w : List ℕ) → Over k w → accepted d w ↔ L.has w }
+    ensures minimal { (k : ℕ) (d : MinimalAutomaton) → IsMinimal k L.has d → IsMinimal k (accepted d) d }
 {}
