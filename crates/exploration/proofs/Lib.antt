@@ -3,6 +3,7 @@ pub mod BreadthFirst
 pub mod Searching
 pub mod Whole
 pub mod Interning
+pub mod KeyedStates
 pub mod Tables
 pub mod Totals
 pub mod Refining

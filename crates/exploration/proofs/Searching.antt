@@ -1,5 +1,5 @@
 -- What a step of a machine of numbered states makes of a search, and what a whole search has found.
-use Rattle.std.proofs.Common.{◌≡◌, ℕ, ◌+◌, ◌*◌, ◌<◌, ◌⊎◌, inl, inr, List, [], ◌∷◌, ◌++◌, Option, Some, length, refl, ap, sym, subst, ◌∙◌, arith, length-append}
+use Rattle.std.proofs.Common.{◌≡◌, ℕ, ◌+◌, ◌*◌, ◌<◌, ◌≤◌, ◌⊎◌, inl, inr, List, [], ◌∷◌, ◌++◌, Option, Some, length, refl, ap, sym, subst, ◌∙◌, arith, length-append}
 use Rattle.std.specs.Prelude.{slice_index, All}
 use Rattle.std.proofs.lemmas.List.Elements.{All-nil}
 use Rattle.std.proofs.lemmas.Bool.{cases_lt}
@@ -8,7 +8,7 @@ use Rattle.language_theory.specs.Words.{Over, word_at}
 use Rattle.language_theory.specs.Representatives.{HasMoreClasses}
 use Rattle.language_theory.proofs.Shortlex.{over_last}
 use Rattle.exploration.specs.States.{AreNumbered, Agree, IsSameMachine, AreKept, IsNext, IsCounted}
-use Rattle.exploration.specs.Search.{IsBreadthFirst, AreNodes, IsSearched}
+use Rattle.exploration.specs.Search.{IsBreadthFirst, AreNodes, IsSearched, IsExploring, HasExplored}
 use Rattle.exploration.proofs.Places.{row_within, place_before_or_last}
 use Rattle.exploration.proofs.BreadthFirst.{search_finds, search_meets}
 
@@ -30,13 +30,13 @@ module _ (k : ℕ) (same later : List ℕ → List ℕ → Type 0) (old new : Li
       subst (λ (c : ℕ). new (w ++ c ∷ []) ≡ Some n) (sym l.1) (next.leads w o (number_before w p o hp given_p))
       ∙ ap (λ (t : ℕ). Some t) (sym (get_or_push targets n 0 (q * k + b) place))
 
-  nodes_meet : (words : List (List ℕ)) (targets : List ℕ) (p a n : ℕ) → IsBreadthFirst k words targets → length words ≡ count → AreNodes k old words targets → p < count → a < k → length targets ≡ p * k + a → IsNext k old new p a n → AreNodes k new words (targets ++ n ∷ [])
+  pub nodes_meet : (words : List (List ℕ)) (targets : List ℕ) (p a n : ℕ) → IsBreadthFirst k words targets → length words ≡ count → AreNodes k old words targets → p < count → a < k → length targets ≡ p * k + a → IsNext k old new p a n → AreNodes k new words (targets ++ n ∷ [])
   nodes_meet words targets p a n f long h hp ha e next = record {
     own = λ i hi. kept.kept (word_at words i) i (f.over i hi) (h.own i hi);
     next = λ q b w hb place o given. next_again words targets p a n f long h hp ha e next q b w hb (place_before_or_last q b p a k targets n hb ha e place) o given;
   }
 
-  nodes_find : (words : List (List ℕ)) (targets : List ℕ) (p a : ℕ) → IsBreadthFirst k words targets → length words ≡ count → AreNodes k old words targets → p < count → a < k → length targets ≡ p * k + a → IsNext k old new p a (length words) → AreNodes k new (words ++ (word_at words p ++ a ∷ []) ∷ []) (targets ++ length words ∷ [])
+  pub nodes_find : (words : List (List ℕ)) (targets : List ℕ) (p a : ℕ) → IsBreadthFirst k words targets → length words ≡ count → AreNodes k old words targets → p < count → a < k → length targets ≡ p * k + a → IsNext k old new p a (length words) → AreNodes k new (words ++ (word_at words p ++ a ∷ []) ∷ []) (targets ++ length words ∷ [])
   nodes_find words targets p a f long h hp ha e next = record {
     own = λ i hi. own i (elim (cases_lt i (length words)) [ inl l ↦ inl l | inr l ↦ inr (omega (arith, more)) ]);
     next = λ q b w hb place o given. next_again words targets p a (length words) f long h hp ha e next q b w hb (place_before_or_last q b p a k targets (length words) hb ha e place) o given;
@@ -82,6 +82,26 @@ search_step k l same later old new count after targets p a n before now machine 
     let numbered = subst (λ (m : ℕ). AreNumbered m later new after) machine.letters now in
     (numbered, search_next k same later old new count after before numbered machine.same kept targets p a n h hp ha e next counted)
 
+counted_grows : (count after n : ℕ) → IsCounted count after n → count ≤ after
+counted_grows count after n (inl h) = omega arith
+counted_grows count after n (inr h) = omega arith
+
+-- a search that stays within its limit goes on to the next place
+pub search_goes_on : (k l : ℕ) (same later : List ℕ → List ℕ → Type 0) (old new : List ℕ → Option ℕ)
+  (count after limit p a n : ℕ) (targets : List ℕ)
+  → AreNumbered k same old count → AreNumbered l later new after → IsSameMachine k l same later → AreKept k old new
+  → p < count → a < k → IsExploring k old count limit (p * k + a) targets
+  → IsNext k old new p a n → IsCounted count after n → after ≤ limit
+  → HasExplored k new count after limit (p * k + a + 1) (targets ++ n ∷ [])
+search_goes_on k l same later old new count after limit p a n targets before now machine kept hp ha h next counted few =
+    let longer : length (targets ++ n ∷ []) ≡ length targets + 1 = simp length-append in
+    let (_, searched) = search_step k l same later old new count after targets p a n before now machine kept
+      h.searched hp ha h.here next counted in
+    record {
+      grows = counted_grows count after n counted;
+      exploring = record { small = h.small; few = few; here = omega (arith, h.here, longer); searched = searched };
+    }
+
 -- there are as many classes as words were found
 pub search_has_classes : (k : ℕ) (same : List ℕ → List ℕ → Type 0) (number : List ℕ → Option ℕ) (count : ℕ) (targets : List ℕ) (limit : ℕ) → AreNumbered k same number count → IsSearched k number count targets → limit < count → HasMoreClasses k same limit
 search_has_classes k same number count targets limit now h l = (
@@ -107,6 +127,18 @@ agree_classes k same later limit agree (words, many, apart) = (
     apart = λ i j hij hj alike. apart.apart i j hij hj ((agree.both (word_at words i) (word_at words j) (apart.over i (omega arith)) (apart.over j hj)).0 alike);
   },
 )
+
+-- a search that passes its limit has found more classes
+pub search_passes_limit : (k l : ℕ) (same later : List ℕ → List ℕ → Type 0) (old new : List ℕ → Option ℕ)
+  (count after limit p a n : ℕ) (targets : List ℕ)
+  → AreNumbered k same old count → AreNumbered l later new after → IsSameMachine k l same later → AreKept k old new
+  → p < count → a < k → IsExploring k old count limit (p * k + a) targets
+  → IsNext k old new p a n → IsCounted count after n → limit < after → HasMoreClasses k same limit
+search_passes_limit k l same later old new count after limit p a n targets before now machine kept hp ha h next counted more =
+    let (numbered, searched) = search_step k l same later old new count after targets p a n before now machine kept
+      h.searched hp ha h.here next counted in
+    agree_classes k same later limit machine.same
+      (search_has_classes k later new after (targets ++ n ∷ []) limit numbered searched more)
 
 -- the same relation in a later machine has as many classes
 pub machine_classes : (k l : ℕ) (same later : List ℕ → List ℕ → Type 0) (limit : ℕ) → IsSameMachine k l same later → HasMoreClasses l later limit → HasMoreClasses k same limit

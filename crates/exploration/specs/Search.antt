@@ -1,5 +1,5 @@
 -- A breadth-first search over words, as far as it has come: the targets of node 0 by each letter, then those of node 1, and so on.
-use Rattle.std.specs.Prelude.{◌≡◌, ◌<◌, ◌≤◌, ◌+◌, ◌*◌, ◌++◌, ℕ, List, [], ◌∷◌, Option, Some, length, slice_index, All}
+use Rattle.std.specs.Prelude.{◌≡◌, ◌<◌, ◌≤◌, ◌+◌, ◌-◌, ◌*◌, ◌^◌, ◌++◌, ℕ, List, [], ◌∷◌, Option, Some, length, slice_index, All}
 use Rattle.language_theory.specs.Words.{Over, ◌⊏◌, word_at}
 
 -- Each node has a word; the words rise, and each but the root's is that of an earlier node with a letter behind it. No target has a greater word than the one that leads to it.
@@ -24,3 +24,16 @@ pub record IsSearched (k : ℕ) (number : List ℕ → Option ℕ) (count : ℕ)
   pub long : length words ≡ count
   pub first : IsBreadthFirst k words targets
   pub nodes : AreNodes k number words targets
+
+-- A search within a limit has come to a place: the targets before it are found, and at most `limit` states were seen.
+pub record IsExploring (k : ℕ) (number : List ℕ → Option ℕ) (count limit place : ℕ) (targets : List ℕ) : Type 0 where
+  pub small : limit < 2 ^ 32 - 1
+  pub few : count ≤ limit
+  pub here : length targets ≡ place
+  pub searched : IsSearched k number count targets
+
+-- The search has gone on to a place, and no state is forgotten.
+pub record HasExplored (k : ℕ) (number : List ℕ → Option ℕ) (before count limit place : ℕ) (targets : List ℕ)
+  : Type 0 where
+  pub grows : before ≤ count
+  pub exploring : IsExploring k number count limit place targets

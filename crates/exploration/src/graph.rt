@@ -53,6 +53,13 @@ impl ShortlexGraph {
         self.letters
     }
 
+    /// The targets of node 0 by each letter, then those of node 1, and so on.
+    pub fn into_targets(self) -> Vec<u32>
+        ensures { result.items ≡ self.targets }
+    {
+        self.targets
+    }
+
     /// The node to which a letter leads. Condition: node and letter are in range.
     pub fn step(&self, node: u32, letter: u8) -> u32
         requires node { node < self.now.size }

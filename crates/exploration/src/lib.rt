@@ -8,13 +8,13 @@ mod graph;
 mod quotients;
 mod refinement;
 mod states;
+#[cfg(test)]
 mod table;
 #[cfg(test)]
 mod tests;
 
-pub use exploring::{ExploreFault, explore};
+pub use exploring::{ExploreFault, expand, explore};
 pub use graph::ShortlexGraph;
 pub use quotients::{first_nodes, quotient};
 pub use refinement::{Partition, refine};
 pub use states::States;
-pub use table::TableStates;

@@ -1,4 +1,5 @@
-//! The complete deterministic automaton of a table, as a machine whose states are numbered as they are first seen.
+//! A machine for the tests: the complete deterministic automaton of a table, whose states are numbered as they are
+//! first seen.
 ghost use Rattle.std.specs.Prelude.{◌≡◌, ◌<◌, ◌≤◌, ◌*◌, ◌-◌, ◌^◌, ℕ, List, [], ◌∷◌, ◌++◌, All, length, slice_index, IfOk, OnOk, OnErr};
 ghost use Rattle.std.specs.Prelude.{nat_eq, refl};
 ghost use Rattle.std.specs.List.{position_or_len};
@@ -97,6 +98,8 @@ impl<'a> States for TableStates<'a> {
 
     ghost is_later = { IsLater };
 
+    ghost is_ready = { λ _ _. Unit {0} };
+
     ghost later_keeps = { later_keeps };
 
     ghost later_refl = { λ _. refl };
@@ -118,7 +121,7 @@ impl<'a> States for TableStates<'a> {
         Ok(number)
     }
 
-    fn step(&mut self, state: u32, letter: u8) -> Result<u32, Memory> {
+    fn step(&mut self, _targets: &[u32], state: u32, letter: u8) -> Result<u32, Memory> {
         let from = self.state(state);
         let to = self.target(from, letter);
         let number = self.see(to)?;

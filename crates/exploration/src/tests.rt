@@ -2,7 +2,8 @@
 ghost use Rattle.std.specs.Prelude.{◌≡◌, [], length, IfSome};
 ghost use Rattle.exploration.specs.Table.{IsTable};
 
-use crate::{ExploreFault, ShortlexGraph, TableStates, explore, first_nodes, quotient, refine};
+use crate::table::TableStates;
+use crate::{ExploreFault, ShortlexGraph, explore, first_nodes, quotient, refine};
 use std::alloc::Global;
 use std::test::Fail;
 use syn_words::Memory;

@@ -52,9 +52,12 @@ pub set_from_long : (m : Automaton) (marks : List Bool) (w : List ℕ) → lengt
 set_from_long m marks [] h = h
 set_from_long m marks (a ∷ w) h = set_from_long m (successor m marks a) w (successor_long m marks a)
 
-pub set_from_last : (m : Automaton) (marks : List Bool) (w : List ℕ) (a : ℕ) → set_from m marks (w ++ a ∷ []) ≡ successor m (set_from m marks w) a
+set_from_last : (m : Automaton) (marks : List Bool) (w : List ℕ) (a : ℕ) → set_from m marks (w ++ a ∷ []) ≡ successor m (set_from m marks w) a
 set_from_last m marks [] a = refl
 set_from_last m marks (b ∷ w) a = set_from_last m (successor m marks b) w a
+
+pub set_of_last : (m : Automaton) (w : List ℕ) (a : ℕ) → set_of m (w ++ a ∷ []) ≡ successor m (set_of m w) a
+set_of_last m w a = set_from_last m m.initial w a
 
 -- the marks are those of the states to which the word leads from marked states
 set_from_marks : (m : Automaton) (marks : List Bool) (w : List ℕ) (r : ℕ) → IsAutomaton m → r < m.states → IsTrue (is_marked (set_from m marks w) r) ↔ ((p : ℕ) × (p < m.states) × IsTrue (is_marked marks p) × Leads m p w r)
