@@ -10,3 +10,6 @@ pub mod Refining
 pub mod Rounds
 pub mod Firsts
 pub mod Listing
+pub mod Chains
+pub mod SplitLists
+pub mod ClosedSplits

@@ -14,7 +14,8 @@ use Rattle.exploration.proofs.Interning.{insert_reached}
 use Rattle.exploration.proofs.KeyedStates.{seen_keeps, seen_next, seen_holds, next_reached}
 
 -- where a word with a letter behind it takes a point
-moved_last : (f : ℕ → ℕ → ℕ) (p : ℕ) (w : List ℕ) (a : ℕ) → moved f p (w ++ a ∷ []) ≡ f (moved f p w) a
+moved_last : (f : ℕ → ℕ → ℕ) (p : ℕ) (w : List ℕ) (a : ℕ)
+    → moved f p (w ++ a ∷ []) ≡ f (moved f p w) a
 moved_last f p [] a = refl
 moved_last f p (b ∷ w) a = moved_last f (f p b) w a
 
@@ -25,7 +26,8 @@ state_next t w a = moved_last (image t) t.start w a
 abbrev pub with_seen : Table → ℕ → Table
 with_seen t p = record t { seen = insert_key nat_eq t.seen p }
 
-pub table_seen : (t : Table) (w : List ℕ) (p : ℕ) → Over t.letters w → state_of t w ≡ p → IsTable t → IsTable (with_seen t p)
+pub table_seen : (t : Table) (w : List ℕ) (p : ℕ) → Over t.letters w → state_of t w ≡ p → IsTable t
+    → IsTable (with_seen t p)
 table_seen t w p o e h = record {
   long = h.long;
   within = h.within;
@@ -37,23 +39,28 @@ pub table_keeps : (t : Table) (p : ℕ) → AreKept t.letters (number_of t) (num
 table_keeps t p = seen_keeps nat_eq Decides-eqb t.letters (state_of t) t.seen p
 
 pub table_next : (t : Table) (q a p : ℕ) → p ≡ image t (slice_index t.seen q) a
-  → IsNext t.letters (number_of t) (number_of (with_seen t p)) q a (position_or_len (nat_eq p) t.seen)
-table_next t q a p = seen_next nat_eq Decides-eqb t.letters (state_of t) (image t) (state_next t) t.seen 0 q a p
+    → IsNext t.letters (number_of t) (number_of (with_seen t p)) q a
+    (position_or_len (nat_eq p) t.seen)
+table_next t q a p =
+    seen_next nat_eq Decides-eqb t.letters (state_of t) (image t) (state_next t) t.seen 0 q a p
 
 -- a seen state leads to a state to which a word leads
 pub table_reaches : (t : Table) (q a : ℕ) → IsTable t → q < length t.seen → a < t.letters
-  → (w : List ℕ) × Over t.letters w × (state_of t w ≡ image t (slice_index t.seen q) a)
-table_reaches t q a h = next_reached nat_eq Decides-eqb t.letters (state_of t) (image t) (state_next t) t.seen 0 q a h.seen
+    → (w : List ℕ) × Over t.letters w × (state_of t w ≡ image t (slice_index t.seen q) a)
+table_reaches t q a h = next_reached nat_eq Decides-eqb t.letters (state_of t) (image t)
+    (state_next t) t.seen 0 q a h.seen
 
 -- a seen state is a state
-pub table_within : (t : Table) (q : ℕ) → IsTable t → q < length t.seen → slice_index t.seen q < t.states
+pub table_within : (t : Table) (q : ℕ) → IsTable t → q < length t.seen
+    → slice_index t.seen q < t.states
 table_within t q h l =
     seen_holds nat_eq Decides-eqb t.letters (state_of t) (λ p. p < t.states) t.seen 0 q h.seen l
-      (λ w o. walks t.start w h.start o)
+    (λ w o. walks t.start w h.start o)
   where
     walks : (p : ℕ) (w : List ℕ) → p < t.states → Over t.letters w → moved (image t) p w < t.states
     walks p [] hp o = hp
     walks p (a ∷ w) hp o =
         let place = row_place p a t.states t.letters hp o.0 in
-        let next : image t p a < t.states = All-get_or (λ q. q < t.states) t.targets (p * t.letters + a) 0 (rw h.long place) h.within in
+        let next : image t p a < t.states = All-get_or (λ q. q < t.states) t.targets
+        (p * t.letters + a) 0 (rw h.long place) h.within in
         walks (image t p a) w next o.1

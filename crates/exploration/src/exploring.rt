@@ -67,20 +67,17 @@ pub fn explore<S: States>(
     requires limit { limit < 2 ^ 32 - 1 }
     ensures sound { S.is_sound states.new }
     ensures later { S.is_later states.old states.new }
-    ensures graph {
-        IfOk result (λ g. (words : List (List ℕ)) × IsGraphOf (S.letters_of states.old) (S.same states.old) g words)
-    }
-    ensures numbers {
-        IfOk result (λ g.
-            (w : List ℕ) → Over (S.letters_of states.old) w → S.number states.new w ≡ Option.Some (node g w))
-    }
+    ensures graph { IfOk result (λ g. (words : List (List ℕ))
+        × IsGraphOf (S.letters_of states.old) (S.same states.old) g words) }
+    ensures numbers { IfOk result (λ g. (w : List ℕ) → Over (S.letters_of states.old) w
+        → S.number states.new w ≡ Option.Some (node g w)) }
     ensures size { IfOk result (λ g. g.size ≡ S.count states.new) }
     ensures ready { IfOk result (λ g. S.is_ready states.new g.targets) }
     ensures within { IfOk result (λ g. g.size ≤ limit) }
-    ensures few { OnOk result (¬ HasMoreClasses (S.letters_of states.old) (S.same states.old) limit) }
-    ensures many {
-        IsErrOf result ExploreFault.Limit → HasMoreClasses (S.letters_of states.old) (S.same states.old) limit
-    }
+    ensures few { OnOk result
+        (¬ HasMoreClasses (S.letters_of states.old) (S.same states.old) limit) }
+    ensures many { IsErrOf result ExploreFault.Limit
+        → HasMoreClasses (S.letters_of states.old) (S.same states.old) limit }
 {
     if limit == 0 {
         return Err(ExploreFault::Limit);
@@ -107,20 +104,15 @@ pub fn expand<S: States>(
     requires sound { S.is_sound states.old }
     requires ready { S.is_ready states.old targets.old.items }
     requires node { node < S.count states.old }
-    requires exploring {
-        IsExploring (S.letters_of states.old) (S.number states.old) (S.count states.old) limit
-            (node * S.letters_of states.old) targets.old.items
-    }
+    requires exploring { IsExploring (S.letters_of states.old) (S.number states.old)
+        (S.count states.old) limit (node * S.letters_of states.old) targets.old.items }
     ensures sound { S.is_sound states.new }
     ensures later { S.is_later states.old states.new }
     ensures ready { OnOk result (S.is_ready states.new targets.new.items) }
-    ensures explored {
-        OnOk result (HasExplored (S.letters_of states.old) (S.number states.new) (S.count states.old)
-            (S.count states.new) limit ((node + 1) * S.letters_of states.old) targets.new.items)
-    }
-    ensures many {
-        IsErrOf result ExploreFault.Limit → HasMoreClasses (S.letters_of states.old) (S.same states.old) limit
-    }
+    ensures explored { OnOk result (HasExplored (S.letters_of states.old) (S.number states.new)
+        (S.count states.old) (S.count states.new) limit ((node + 1) * S.letters_of states.old) targets.new.items) }
+    ensures many { IsErrOf result ExploreFault.Limit
+        → HasMoreClasses (S.letters_of states.old) (S.same states.old) limit }
 {
     for letter in 0..states.letters() {
         follow(states, node, letter, limit, targets)?;
@@ -141,20 +133,16 @@ fn follow<S: States>(
     requires ready { S.is_ready states.old targets.old.items }
     requires node { node < S.count states.old }
     requires letter { letter < S.letters_of states.old }
-    requires exploring {
-        IsExploring (S.letters_of states.old) (S.number states.old) (S.count states.old) limit
-            (node * S.letters_of states.old + letter) targets.old.items
-    }
+    requires exploring { IsExploring (S.letters_of states.old) (S.number states.old)
+        (S.count states.old) limit (node * S.letters_of states.old + letter) targets.old.items }
     ensures sound { S.is_sound states.new }
     ensures later { S.is_later states.old states.new }
     ensures ready { OnOk result (S.is_ready states.new targets.new.items) }
-    ensures explored {
-        OnOk result (HasExplored (S.letters_of states.old) (S.number states.new) (S.count states.old)
-            (S.count states.new) limit (node * S.letters_of states.old + letter + 1) targets.new.items)
-    }
-    ensures many {
-        IsErrOf result ExploreFault.Limit → HasMoreClasses (S.letters_of states.old) (S.same states.old) limit
-    }
+    ensures explored { OnOk result (HasExplored (S.letters_of states.old) (S.number states.new)
+        (S.count states.old) (S.count states.new) limit
+        (node * S.letters_of states.old + letter + 1) targets.new.items) }
+    ensures many { IsErrOf result ExploreFault.Limit
+        → HasMoreClasses (S.letters_of states.old) (S.same states.old) limit }
 {
     let target = states.step(targets.as_slice(), node, letter)?;
     if states.len() > limit {

@@ -5,8 +5,11 @@
 
 mod exploring;
 mod graph;
+mod inverse;
+mod nodes;
 mod quotients;
 mod refinement;
+mod splitting;
 mod states;
 #[cfg(test)]
 mod table;

@@ -68,18 +68,19 @@ pub trait States {
         ensures sound { is_sound self.new }
         ensures later { is_later self.old self.new }
         ensures kept { AreKept (letters_of self.old) (number self.old) (number self.new) }
-        ensures next {
-            IfOk result (λ n. IsNext (letters_of self.old) (number self.old) (number self.new) state letter n)
-        }
+        ensures next { IfOk result (λ n.
+            IsNext (letters_of self.old) (number self.old) (number self.new) state letter n) }
         ensures counted { IfOk result (λ n. IsCounted (count self.old) (count self.new) n) }
         ensures ready { IfOk result (λ n. is_ready self.new (targets.now ++ n ∷ [])) }
         ensures err { OnErr result (count self.new ≡ count self.old) };
 
-    ghost later_keeps: { (s t : Self) → is_later s t → IsSameMachine (letters_of s) (letters_of t) (same s) (same t) };
+    ghost later_keeps: { (s t : Self) → is_later s t
+        → IsSameMachine (letters_of s) (letters_of t) (same s) (same t) };
 
     ghost later_refl: { (s : Self) → is_later s s };
 
     ghost later_trans: { (r s t : Self) → is_later r s → is_later s t → is_later r t };
 
-    ghost numbered: { (s : Self) → is_sound s → AreNumbered (letters_of s) (same s) (number s) (count s) };
+    ghost numbered: { (s : Self) → is_sound s
+        → AreNumbered (letters_of s) (same s) (number s) (count s) };
 }

@@ -25,7 +25,14 @@ pub struct TableStates<'a> {
 impl<'a> Model for TableStates<'a> {
     ghost Value = { Table };
 
-    ghost view = { λ t. record { states = t.states; letters = t.letters; start = t.start; targets = t.targets.now; seen = t.seen.keys } };
+    ghost view = { λ t. record {
+      states = t.states;
+      letters = t.letters;
+      start = t.start;
+      targets =
+          t.targets.now;
+      seen = t.seen.keys;
+    } };
 
     ghost invariant = { λ t. length t.seen.keys < 2 ^ 32 };
 }
@@ -43,7 +50,14 @@ impl<'a> TableStates<'a> {
         requires long { length targets.now ≡ states * letters }
         requires within { All (λ p. p < states) targets.now }
         requires start { start < states }
-        ensures table { result ≡ record { states = states; letters = letters; start = start; targets = targets.now; seen = [] } }
+        ensures table { result ≡ record {
+          states = states;
+          letters = letters;
+          start = start;
+          targets =
+              targets.now;
+          seen = [];
+        } }
         ensures sound { IsTable result }
     {
         TableStates {
@@ -76,7 +90,8 @@ impl<'a> TableStates<'a> {
     /// Sees a state, if it was not seen before, and answers its number.
     fn see(&mut self, state: u32) -> Result<u32, Memory>
         requires room { length self.old.seen < 2 ^ 32 - 1 }
-        ensures seen { OnOk result (self.new ≡ record self.old { seen = insert_key nat_eq self.old.seen state }) }
+        ensures seen { OnOk result (self.new
+            ≡ record self.old { seen = insert_key nat_eq self.old.seen state }) }
         ensures number { IfOk result (λ n. n ≡ position_or_len (nat_eq state) self.old.seen) }
         ensures err { OnErr result (self.new ≡ self.old) }
     {

@@ -11,6 +11,7 @@ invariant-loop-letter g l =
       ready : g.S.States.is_ready l.states l.targets.items;
       letters : g.S.States.letters_of l.states ≡ k;
       all : l.letter-end ≡ k;
-      explored : HasExplored k (g.S.States.number l.states) (g.S.States.count l.fn.states) (g.S.States.count l.states)
-        l.limit (l.node * k + l.letter) l.targets.items;
+      explored : HasExplored k (g.S.States.number l.states) (g.S.States.count l.fn.states)
+          (g.S.States.count l.states)
+          l.limit (l.node * k + l.letter) l.targets.items;
     }

@@ -11,8 +11,9 @@ invariant-loop-node g l =
       ready : g.S.States.is_ready l.states l.targets.items;
       letters : g.S.States.letters_of l.states ≡ k;
       within : l.node ≤ g.S.States.count l.states;
-      exploring : IsExploring k (g.S.States.number l.states) (g.S.States.count l.states) l.limit (l.node * k)
-        l.targets.items;
+      exploring : IsExploring k (g.S.States.number l.states) (g.S.States.count l.states) l.limit
+          (l.node * k)
+          l.targets.items;
     }
 
 abbrev pub decreases-loop-node : goal.decreases-loop-node
