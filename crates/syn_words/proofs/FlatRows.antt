@@ -1,9 +1,9 @@
 -- Rows that stand one behind the other in a flat list.
-use Rattle.std.proofs.Common.{◌≡◌, ℕ, ◌+◌, ◌-◌, ◌*◌, ◌<◌, ◌≤◌, List, [], ◌∷◌, ◌++◌, length, get_or, take, drop, inl, inr, refl, ap, sym, subst, ◌∙◌, arith, length-append}
+use Rattle.std.proofs.Common.{◌≡◌, ℕ, ◌+◌, ◌-◌, ◌*◌, ◌<◌, ◌≤◌, List, [], ◌∷◌, ◌++◌, length, get_or, take, drop, inl, inr, refl, ap, subst, ◌∙◌, arith, length-append}
 use Rattle.std.proofs.lemmas.Bool.{cases_lt}
 use Rattle.std.proofs.lemmas.List.{get_or_append_left, get_or_push, take-append-le, take_all, drop-append-le, length-drop}
 use Rattle.std.proofs.Math.Seq.{drop-append_seam}
-use Rattle.language_theory.specs.Automaton.{Automaton, targets_of}
+use Rattle.language_theory.specs.Automaton.{Automaton}
 use Rattle.language_theory.proofs.Graphs.{row_place}
 use Rattle.syn_words.specs.Targets.{AreTargets, IsRowAt, AreRowsAt, AreFlatTargets}
 
@@ -12,13 +12,13 @@ AreRowsAt-none rows = record { long = refl; last = refl; row = λ i l. absurd (o
 
 -- what is put behind the rows leaves them as they are
 row_kept : (starts flat more row : List ℕ) (i end : ℕ) → i + 1 < length starts
-  → IsRowAt starts flat i row
-  → IsRowAt (starts ++ end ∷ []) (flat ++ more) i row
+    → IsRowAt starts flat i row
+    → IsRowAt (starts ++ end ∷ []) (flat ++ more) i row
 row_kept starts flat more row i end l h =
     let here : get_or (starts ++ end ∷ []) i 0 ≡ get_or starts i 0 =
-        get_or_append_left starts (end ∷ []) 0 i (omega arith) in
+    get_or_append_left starts (end ∷ []) 0 i (omega arith) in
     let next : get_or (starts ++ end ∷ []) (i + 1) 0 ≡ get_or starts (i + 1) 0 =
-        get_or_append_left starts (end ∷ []) 0 (i + 1) l in
+    get_or_append_left starts (end ∷ []) 0 (i + 1) l in
     record {
       rises = rw (here, next) h.rises;
       within = rw next (omega (arith, length-append flat more, h.within));
@@ -27,15 +27,15 @@ row_kept starts flat more row i end l h =
     }
   where
     front : (a b : ℕ) → a ≤ b → b ≤ length flat
-      → take (b - a) (drop a (flat ++ more)) ≡ take (b - a) (drop a flat)
+        → take (b - a) (drop a (flat ++ more)) ≡ take (b - a) (drop a flat)
     front a b r w =
         ap (take (b - a)) (drop-append-le a flat more (omega arith))
         ∙ take-append-le (b - a) (drop a flat) more (omega (arith, length-drop a flat))
 
 pub AreRowsAt-more : (rows : List (List ℕ)) (n end : ℕ) (starts flat row : List ℕ)
-  → AreRowsAt rows n starts flat
-  → row ≡ get_or rows n [] → end ≡ length (flat ++ row)
-      → AreRowsAt rows (n + 1) (starts ++ end ∷ []) (flat ++ row)
+    → AreRowsAt rows n starts flat
+    → row ≡ get_or rows n [] → end ≡ length (flat ++ row)
+    → AreRowsAt rows (n + 1) (starts ++ end ∷ []) (flat ++ row)
 AreRowsAt-more rows n end starts flat row h e f = record {
   long = omega (arith, length-append starts (end ∷ []), h.long);
   last = get_or_push starts end 0 (n + 1) h.long ∙ f;
@@ -63,17 +63,17 @@ AreRowsAt-more rows n end starts flat row h e f = record {
       rises = rw (start, stop) (omega (arith, long));
       within = rw stop (omega arith);
       same = rw (start, stop)
-        (ap (take (length (flat ++ row) - length flat)) (drop-append_seam flat row)
-        ∙ all (length (flat ++ row) - length flat) row (omega (arith, long)) ∙ e);
+          (ap (take (length (flat ++ row) - length flat)) (drop-append_seam flat row)
+          ∙ all (length (flat ++ row) - length flat) row (omega (arith, long)) ∙ e);
     }
 
 -- the rows by state and letter
 pub AreFlatTargets-of_rows : (m : Automaton) (rows : List (List ℕ)) (starts flat : List ℕ)
-  → AreTargets m rows
-  → AreRowsAt rows (length rows) starts flat → AreFlatTargets m starts flat
+    → AreTargets m rows
+    → AreRowsAt rows (length rows) starts flat → AreFlatTargets m starts flat
 AreFlatTargets-of_rows m rows starts flat t h = record {
   long = h.long ∙ ap (λ (n : ℕ). n + 1) t.long;
   row = λ p a hp ha.
       subst (IsRowAt starts flat (p * m.letters + a)) (t.row p a hp ha)
-        (h.row (p * m.letters + a) (rw t.long (row_place p a m.states m.letters hp ha)));
+      (h.row (p * m.letters + a) (rw t.long (row_place p a m.states m.letters hp ha)));
 }

@@ -6,14 +6,14 @@ use Rattle.language_theory.specs.Automaton.{Automaton, targets_of}
 pub record AreTargets (m : Automaton) (rows : List (List ℕ)) : Type 0 where
   pub long : length rows ≡ m.states * m.letters
   pub row : (p a : ℕ) → p < m.states → a < m.letters
-    → slice_index_or rows (p * m.letters + a) [] ≡ targets_of m p a
+      → slice_index_or rows (p * m.letters + a) [] ≡ targets_of m p a
 
 -- the row i of one flat list begins at the place `starts[i]`, and ends where the next one begins
 pub record IsRowAt (starts flat : List ℕ) (i : ℕ) (row : List ℕ) : Type 0 where
   pub rises : slice_index starts i ≤ slice_index starts (i + 1)
   pub within : slice_index starts (i + 1) ≤ length flat
   pub same : take (slice_index starts (i + 1) - slice_index starts i)
-    (drop (slice_index starts i) flat) ≡ row
+      (drop (slice_index starts i) flat) ≡ row
 
 -- the first n rows, one behind the other
 pub record AreRowsAt (rows : List (List ℕ)) (n : ℕ) (starts flat : List ℕ) : Type 0 where
@@ -25,4 +25,4 @@ pub record AreRowsAt (rows : List (List ℕ)) (n : ℕ) (starts flat : List ℕ)
 pub record AreFlatTargets (m : Automaton) (starts flat : List ℕ) : Type 0 where
   pub long : length starts ≡ m.states * m.letters + 1
   pub row : (p a : ℕ) → p < m.states → a < m.letters
-    → IsRowAt starts flat (p * m.letters + a) (targets_of m p a)
+      → IsRowAt starts flat (p * m.letters + a) (targets_of m p a)

@@ -38,7 +38,7 @@ impl<'a> Targets<'a> {
         ensures { IfOk result (λ t. t ≡ nfa.now) }
     {
         let rows = lay_out(alloc, nfa)?;
-        let rows = flatten(alloc, rows.as_slice())?;
+        let rows = flatten(alloc, rows.as_slice(), nfa.steps().len())?;
         Ok(Targets { nfa, rows })
     }
 
@@ -57,14 +57,13 @@ impl<'a> Targets<'a> {
     }
 }
 
-/// The rows, one behind the other.
-fn flatten(alloc: Global, rows: &[Vec<u32>]) -> Result<Rows, Memory>
-    ensures {
-        IfOk result (λ r. AreRowsAt (map vec_items rows.now) (length rows.now) r.starts.items r.flat.items)
-    }
+/// The rows, one behind the other. The memory for `count` numbers is taken at once.
+fn flatten(alloc: Global, rows: &[Vec<u32>], count: usize) -> Result<Rows, Memory>
+    ensures { IfOk result (λ r.
+        AreRowsAt (map vec_items rows.now) (length rows.now) r.starts.items r.flat.items) }
 {
-    let mut starts = Vec::new(alloc);
-    let mut flat = Vec::new(alloc);
+    let mut starts = Vec::with_capacity(alloc, rows.len())?;
+    let mut flat = Vec::with_capacity(alloc, count)?;
     starts.push(0)?;
     for row in rows {
         flat.extend_from_slice(row.as_slice())?;

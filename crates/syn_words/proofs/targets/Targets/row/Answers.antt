@@ -7,7 +7,7 @@ use Rattle.syn_words.proofs.targets.Targets.row.Goals as goal
 pub returns-clause-within : goal.returns-clause-within
 returns-clause-within c =
     let same : take (c.index-end.result.now - c.index-start.result.now)
-        (drop c.index-start.result.now c.deref.result.now)
-        ≡ targets_of c.args.self.now c.args.state c.args.letter = grind (arith, common_steps) in
+    (drop c.index-start.result.now c.deref.result.now)
+    ≡ targets_of c.args.self.now c.args.state c.args.letter = grind (arith, common_steps) in
     rw (same, ← c.self.view_is) (targets_within c.self.inside.nfa.now c.args.state c.args.letter
-        c.letters.ensures.sized.automaton)
+    c.letters.ensures.sized.automaton)
