@@ -21,9 +21,12 @@ fn listed(alloc: Global, set: &NumberSet) -> Result<Vec<u32>, Memory> {
 fn walks_members(rt: HostRuntime) -> Result<(), Fail> {
     let mut set = NumberSet::empty(rt.alloc(), 320)?;
     assert_eq!(rt; set.members().next(), None);
-    for number in [319u32, 0, 64, 63, 64, 257] {
-        set.insert(number);
-    }
+    set.insert(319);
+    set.insert(0);
+    set.insert(64);
+    set.insert(63);
+    set.insert(64);
+    set.insert(257);
     assert_eq!(rt;
         listed(rt.alloc(), &set)?.as_slice(),
         [0, 63, 64, 257, 319].as_slice()
