@@ -5,3 +5,5 @@ pub mod Table
 pub mod NumberedKeys
 pub mod Refinement
 pub mod Listing
+pub mod Splitting
+pub mod SplittingState

@@ -3,11 +3,14 @@ use Rattle.std.specs.Prelude.{◌≡◌, ◌<◌, ◌+◌, ◌++◌, ◌↔◌, 
 use Rattle.language_theory.specs.Words.{Over}
 use Rattle.language_theory.specs.Congruence.{Agree}
 
--- The states that were seen have the numbers below `count`: each number is used, and words have the same number exactly if they lead to the same state.
-pub record AreNumbered (k : ℕ) (same : List ℕ → List ℕ → Type 0) (number : List ℕ → Option ℕ) (count : ℕ) : Type 0 where
+-- The states that were seen have the numbers below `count`: each number is used, and words have the
+-- same number exactly if they lead to the same state.
+pub record AreNumbered (k : ℕ) (same : List ℕ → List ℕ → Type 0) (number : List ℕ → Option ℕ)
+    (count : ℕ) : Type 0 where
   pub below : (w : List ℕ) (n : ℕ) → Over k w → number w ≡ Some n → n < count
   pub used : (n : ℕ) → n < count → (w : List ℕ) × Over k w × (number w ≡ Some n)
-  pub one : (u v : List ℕ) (n : ℕ) → Over k u → Over k v → number u ≡ Some n → (number v ≡ Some n) ↔ same u v
+  pub one : (u v : List ℕ) (n : ℕ) → Over k u → Over k v → number u ≡ Some n
+      → (number v ≡ Some n) ↔ same u v
 
 -- two machines have the same letters, and the same words lead to one state
 pub record IsSameMachine (k l : ℕ) (old new : List ℕ → List ℕ → Type 0) : Type 0 where

@@ -7,7 +7,8 @@ use Rattle.exploration.specs.States.{AreNumbered, IsSameMachine}
 use Rattle.exploration.specs.Interning.{AreReached}
 use Rattle.exploration.specs.NumberedKeys.{keys_number}
 
--- the targets of state 0 for each letter, then those of state 1, and so on; the states that were seen, in the order in which they were seen
+-- the targets of state 0 for each letter, then those of state 1, and so on; the states that were
+-- seen, in the order in which they were seen
 pub record Table : Type 0 where
   pub states : ℕ
   pub letters : ℕ
@@ -45,9 +46,13 @@ IsLater s t = t ≡ record s { seen = t.seen }
 pub later_trans : (r s t : Table) → IsLater r s → IsLater s t → IsLater r t
 later_trans r s t e f = f ∙ ap (λ (u : Table). let v : Table = record u { seen = t.seen } in v) e
 
-pub later_keeps : (s t : Table) → IsLater s t → IsSameMachine s.letters t.letters (SameState s) (SameState t)
-later_keeps s t e = subst (λ (u : Table). IsSameMachine s.letters u.letters (SameState s) (SameState u)) (sym e) (record { letters = refl; same = record { both = λ u v _ _. (λ h. h, λ h. h) } })
+pub later_keeps : (s t : Table) → IsLater s t
+    → IsSameMachine s.letters t.letters (SameState s) (SameState t)
+later_keeps s t e = subst (λ (u : Table). IsSameMachine s.letters u.letters (SameState s)
+    (SameState u)) (sym e)
+    (record { letters = refl; same = record { both = λ u v _ _. (λ h. h, λ h. h) } })
 
 -- the states that were seen are numbered one to one
-pub table_numbered : (t : Table) → IsTable t → AreNumbered t.letters (SameState t) (number_of t) (length t.seen)
+pub table_numbered : (t : Table) → IsTable t
+    → AreNumbered t.letters (SameState t) (number_of t) (length t.seen)
 table_numbered t h = keys_number nat_eq Decides-eqb t.letters (state_of t) t.seen h.seen

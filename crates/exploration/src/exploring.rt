@@ -4,7 +4,7 @@ ghost use Rattle.std.specs.Result.{IsErrOf};
 ghost use Rattle.language_theory.specs.Words.{Over};
 ghost use Rattle.language_theory.specs.Representatives.{HasMoreClasses};
 ghost use Rattle.language_theory.specs.ShortlexGraph.{node, IsGraphOf};
-ghost use Rattle.exploration.specs.Search.{IsSearched};
+ghost use Rattle.exploration.specs.Search.{IsExploring, HasExplored};
 
 use crate::graph::ShortlexGraph;
 use crate::states::States;
@@ -67,12 +67,17 @@ pub fn explore<S: States>(
     requires limit { limit < 2 ^ 32 - 1 }
     ensures sound { S.is_sound states.new }
     ensures later { S.is_later states.old states.new }
-    ensures graph { IfOk result (λ g. (words : List (List ℕ)) × IsGraphOf (S.letters_of states.old) (S.same states.old) g words) }
-    ensures numbers { IfOk result (λ g. (w : List ℕ) → Over (S.letters_of states.old) w → S.number states.new w ≡ Option.Some (node g w)) }
+    ensures graph { IfOk result (λ g. (words : List (List ℕ))
+        × IsGraphOf (S.letters_of states.old) (S.same states.old) g words) }
+    ensures numbers { IfOk result (λ g. (w : List ℕ) → Over (S.letters_of states.old) w
+        → S.number states.new w ≡ Option.Some (node g w)) }
     ensures size { IfOk result (λ g. g.size ≡ S.count states.new) }
+    ensures ready { IfOk result (λ g. S.is_ready states.new g.targets) }
     ensures within { IfOk result (λ g. g.size ≤ limit) }
-    ensures few { OnOk result (¬ HasMoreClasses (S.letters_of states.old) (S.same states.old) limit) }
-    ensures many { IsErrOf result ExploreFault.Limit → HasMoreClasses (S.letters_of states.old) (S.same states.old) limit }
+    ensures few { OnOk result
+        (¬ HasMoreClasses (S.letters_of states.old) (S.same states.old) limit) }
+    ensures many { IsErrOf result ExploreFault.Limit
+        → HasMoreClasses (S.letters_of states.old) (S.same states.old) limit }
 {
     if limit == 0 {
         return Err(ExploreFault::Limit);
@@ -87,26 +92,27 @@ pub fn explore<S: States>(
     Ok(ShortlexGraph::new(states.len(), states.letters(), targets))
 }
 
-/// Puts the targets of a node by each letter, in order, behind those of the nodes before it.
-fn expand<S: States>(
+/// Puts the targets of a node by each letter, in order, behind those of the nodes before it. A caller that explores by
+/// these steps may prepare the machine before each of them, so long as it keeps what is asked here. Condition: the
+/// node is seen, and a search within the limit has come to it.
+pub fn expand<S: States>(
     states: &mut S,
     node: u32,
     limit: u32,
     targets: &mut Vec<u32>,
 ) -> Result<(), ExploreFault>
     requires sound { S.is_sound states.old }
+    requires ready { S.is_ready states.old targets.old.items }
     requires node { node < S.count states.old }
-    requires count { S.count states.old ≤ limit }
-    requires limit { limit < 2 ^ 32 - 1 }
-    requires here { length targets.old.items ≡ node * S.letters_of states.old }
-    requires searched { IsSearched (S.letters_of states.old) (S.number states.old) (S.count states.old) targets.old.items }
+    requires exploring { IsExploring (S.letters_of states.old) (S.number states.old)
+        (S.count states.old) limit (node * S.letters_of states.old) targets.old.items }
     ensures sound { S.is_sound states.new }
     ensures later { S.is_later states.old states.new }
-    ensures count { OnOk result (S.count states.new ≤ limit) }
-    ensures grows { OnOk result (S.count states.old ≤ S.count states.new) }
-    ensures there { OnOk result (length targets.new.items ≡ (node + 1) * S.letters_of states.old) }
-    ensures searched { OnOk result (IsSearched (S.letters_of states.old) (S.number states.new) (S.count states.new) targets.new.items) }
-    ensures many { IsErrOf result ExploreFault.Limit → HasMoreClasses (S.letters_of states.old) (S.same states.old) limit }
+    ensures ready { OnOk result (S.is_ready states.new targets.new.items) }
+    ensures explored { OnOk result (HasExplored (S.letters_of states.old) (S.number states.new)
+        (S.count states.old) (S.count states.new) limit ((node + 1) * S.letters_of states.old) targets.new.items) }
+    ensures many { IsErrOf result ExploreFault.Limit
+        → HasMoreClasses (S.letters_of states.old) (S.same states.old) limit }
 {
     for letter in 0..states.letters() {
         follow(states, node, letter, limit, targets)?;
@@ -114,7 +120,8 @@ fn expand<S: States>(
     Ok(())
 }
 
-/// Puts the target of a node by a letter behind the targets that were found before.
+/// Puts the target of a node by a letter behind the targets that were found before. Condition: the node is seen, and a
+/// search within the limit has come to this target.
 fn follow<S: States>(
     states: &mut S,
     node: u32,
@@ -123,21 +130,21 @@ fn follow<S: States>(
     targets: &mut Vec<u32>,
 ) -> Result<(), ExploreFault>
     requires sound { S.is_sound states.old }
+    requires ready { S.is_ready states.old targets.old.items }
     requires node { node < S.count states.old }
     requires letter { letter < S.letters_of states.old }
-    requires count { S.count states.old ≤ limit }
-    requires limit { limit < 2 ^ 32 - 1 }
-    requires here { length targets.old.items ≡ node * S.letters_of states.old + letter }
-    requires searched { IsSearched (S.letters_of states.old) (S.number states.old) (S.count states.old) targets.old.items }
+    requires exploring { IsExploring (S.letters_of states.old) (S.number states.old)
+        (S.count states.old) limit (node * S.letters_of states.old + letter) targets.old.items }
     ensures sound { S.is_sound states.new }
     ensures later { S.is_later states.old states.new }
-    ensures count { OnOk result (S.count states.new ≤ limit) }
-    ensures grows { OnOk result (S.count states.old ≤ S.count states.new) }
-    ensures there { OnOk result (length targets.new.items ≡ length targets.old.items + 1) }
-    ensures searched { OnOk result (IsSearched (S.letters_of states.old) (S.number states.new) (S.count states.new) targets.new.items) }
-    ensures many { IsErrOf result ExploreFault.Limit → HasMoreClasses (S.letters_of states.old) (S.same states.old) limit }
+    ensures ready { OnOk result (S.is_ready states.new targets.new.items) }
+    ensures explored { OnOk result (HasExplored (S.letters_of states.old) (S.number states.new)
+        (S.count states.old) (S.count states.new) limit
+        (node * S.letters_of states.old + letter + 1) targets.new.items) }
+    ensures many { IsErrOf result ExploreFault.Limit
+        → HasMoreClasses (S.letters_of states.old) (S.same states.old) limit }
 {
-    let target = states.step(node, letter)?;
+    let target = states.step(targets.as_slice(), node, letter)?;
     if states.len() > limit {
         return Err(ExploreFault::Limit);
     }

@@ -22,7 +22,8 @@ impl Model for ShortlexGraph {
 
     ghost view = { λ g. record { size = g.size; letters = g.letters; targets = g.targets.items } };
 
-    ghost invariant = { λ g. IsGraph (record { size = g.size; letters = g.letters; targets = g.targets.items }) };
+    ghost invariant = { λ g.
+        IsGraph (record { size = g.size; letters = g.letters; targets = g.targets.items }) };
 }
 
 impl ShortlexGraph {
@@ -51,6 +52,13 @@ impl ShortlexGraph {
         ensures { result ≡ self.now.letters }
     {
         self.letters
+    }
+
+    /// The targets of node 0 by each letter, then those of node 1, and so on.
+    pub fn into_targets(self) -> Vec<u32>
+        ensures { result.items ≡ self.targets }
+    {
+        self.targets
     }
 
     /// The node to which a letter leads. Condition: node and letter are in range.
@@ -117,7 +125,8 @@ fn list_word_behind(
     requires node { node < graph.now.size }
     requires letter { letter < graph.now.letters }
     requires listed { node < length words.old.items }
-    ensures listing { OnOk result (IsListing graph.now (node * graph.now.letters + letter + 1) words.new.items) }
+    ensures listing { OnOk result
+        (IsListing graph.now (node * graph.now.letters + letter + 1) words.new.items) }
     ensures listed { OnOk result (node < length words.new.items) }
 {
     if graph.step(node, letter) as usize != words.len() {

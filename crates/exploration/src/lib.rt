@@ -5,16 +5,19 @@
 
 mod exploring;
 mod graph;
+mod inverse;
+mod nodes;
 mod quotients;
 mod refinement;
+mod splitting;
 mod states;
+#[cfg(test)]
 mod table;
 #[cfg(test)]
 mod tests;
 
-pub use exploring::{ExploreFault, explore};
+pub use exploring::{ExploreFault, expand, explore};
 pub use graph::ShortlexGraph;
 pub use quotients::{first_nodes, quotient};
 pub use refinement::{Partition, refine};
 pub use states::States;
-pub use table::TableStates;

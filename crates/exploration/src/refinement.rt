@@ -1,4 +1,5 @@
-//! Moore's refinement of the nodes of a shortlex graph.
+//! The coarsest partition of the nodes of a shortlex graph: Hopcroft's splits, and Moore's rounds to see that nothing is
+//! left to split.
 ghost use Rattle.std.specs.Prelude.{◌≡◌, ◌<◌, ◌↔◌, ◌++◌, ℕ, List, [], ◌∷◌, Bool, length, slice_index, nat_eq, IsTrue, IfOk, OnOk};
 ghost use Rattle.std.specs.Cmp.Lexicographic.{pointwise, lists_per, lists_equiv};
 ghost use Rattle.std.specs.Hash as fed;
@@ -8,6 +9,7 @@ ghost use Rattle.language_theory.specs.ShortlexGraph.{IsGraph, IsCoarsest};
 ghost use Rattle.exploration.specs.Refinement.{Classes, signature, target_classes, IsSplit};
 
 use crate::graph::ShortlexGraph;
+use crate::splitting::split_all;
 use indexmap::IndexSet;
 use std::alloc::Global;
 use std::hash::{Hash, Hasher};
@@ -129,7 +131,8 @@ pub(crate) fn push_target_classes(
     requires graph { IsGraph graph.now }
     requires classes { length classes.now ≡ graph.now.size }
     requires node { node < graph.now.size }
-    ensures { OnOk result (into.new.items ≡ into.old.items ++ target_classes graph.now classes.now node graph.now.letters) }
+    ensures { OnOk result (into.new.items
+        ≡ into.old.items ++ target_classes graph.now classes.now node graph.now.letters) }
 {
     for letter in 0..graph.letters() {
         into.push(classes[graph.step(node, letter) as usize])?;
@@ -138,17 +141,20 @@ pub(crate) fn push_target_classes(
 }
 
 /// The coarsest partition of the nodes that respects the marks and the letters: two nodes share a class exactly if no
-/// word tells them apart (Moore's algorithm). The classes are numbered in the order in which they first occur.
-/// Condition: there is a mark for each node. Each round takes time linear in nodes times letters, and there are at
-/// most as many rounds as nodes.
+/// word tells them apart. The classes are numbered in the order in which they first occur. Condition: there is a mark
+/// for each node.
+///
+/// Hopcroft's splits take time linear in nodes times letters times the logarithm of the nodes. Moore's rounds then find
+/// nothing more to split: the first numbers the classes, and the second is the last. They alone make the answer right,
+/// so what the splits might leave undone would cost rounds.
 pub fn refine(alloc: Global, graph: &ShortlexGraph, marks: &[bool]) -> Result<Partition, Memory>
     requires { length marks.now ≡ graph.now.size }
     ensures { IfOk result (λ p. IsCoarsest graph.now marks.now p.count p.classes) }
 {
-    let classes = vec![in alloc; 0; graph.size() as usize]?;
-    let mut coarse = Partition { count: 1, classes };
+    let classes = split_all(alloc, graph, marks)?;
+    let mut coarse = split(alloc, graph, marks, classes.as_slice())?;
     loop {
-        let finer = split(alloc, graph, marks, &coarse)?;
+        let finer = split(alloc, graph, marks, coarse.classes())?;
         if finer.is_same(&coarse) {
             return Ok(finer);
         }
@@ -156,18 +162,17 @@ pub fn refine(alloc: Global, graph: &ShortlexGraph, marks: &[bool]) -> Result<Pa
     }
 }
 
-/// One round: nodes stay together that have the same signature.
+/// One of Moore's rounds: nodes stay together that have the same signature.
 fn split(
     alloc: Global,
     graph: &ShortlexGraph,
     marks: &[bool],
-    coarse: &Partition,
+    classes: &[u32],
 ) -> Result<Partition, Memory>
     requires marks { length marks.now ≡ graph.now.size }
-    requires classes { length coarse.now.classes ≡ graph.now.size }
-    ensures { IfOk result (λ p. IsSplit graph.now marks.now coarse.now.classes p) }
+    requires classes { length classes.now ≡ graph.now.size }
+    ensures { IfOk result (λ p. IsSplit graph.now marks.now classes.now p) }
 {
-    let classes = coarse.classes();
     let mut seen = IndexSet::new(alloc);
     let mut finer = Vec::with_capacity(alloc, graph.size() as usize)?;
     for node in 0..graph.size() {

@@ -1,4 +1,5 @@
-//! The complete deterministic automaton of a table, as a machine whose states are numbered as they are first seen.
+//! A machine for the tests: the complete deterministic automaton of a table, whose states are numbered as they are
+//! first seen.
 ghost use Rattle.std.specs.Prelude.{◌≡◌, ◌<◌, ◌≤◌, ◌*◌, ◌-◌, ◌^◌, ℕ, List, [], ◌∷◌, ◌++◌, All, length, slice_index, IfOk, OnOk, OnErr};
 ghost use Rattle.std.specs.Prelude.{nat_eq, refl};
 ghost use Rattle.std.specs.List.{position_or_len};
@@ -24,7 +25,14 @@ pub struct TableStates<'a> {
 impl<'a> Model for TableStates<'a> {
     ghost Value = { Table };
 
-    ghost view = { λ t. record { states = t.states; letters = t.letters; start = t.start; targets = t.targets.now; seen = t.seen.keys } };
+    ghost view = { λ t. record {
+      states = t.states;
+      letters = t.letters;
+      start = t.start;
+      targets =
+          t.targets.now;
+      seen = t.seen.keys;
+    } };
 
     ghost invariant = { λ t. length t.seen.keys < 2 ^ 32 };
 }
@@ -42,7 +50,14 @@ impl<'a> TableStates<'a> {
         requires long { length targets.now ≡ states * letters }
         requires within { All (λ p. p < states) targets.now }
         requires start { start < states }
-        ensures table { result ≡ record { states = states; letters = letters; start = start; targets = targets.now; seen = [] } }
+        ensures table { result ≡ record {
+          states = states;
+          letters = letters;
+          start = start;
+          targets =
+              targets.now;
+          seen = [];
+        } }
         ensures sound { IsTable result }
     {
         TableStates {
@@ -75,7 +90,8 @@ impl<'a> TableStates<'a> {
     /// Sees a state, if it was not seen before, and answers its number.
     fn see(&mut self, state: u32) -> Result<u32, Memory>
         requires room { length self.old.seen < 2 ^ 32 - 1 }
-        ensures seen { OnOk result (self.new ≡ record self.old { seen = insert_key nat_eq self.old.seen state }) }
+        ensures seen { OnOk result (self.new
+            ≡ record self.old { seen = insert_key nat_eq self.old.seen state }) }
         ensures number { IfOk result (λ n. n ≡ position_or_len (nat_eq state) self.old.seen) }
         ensures err { OnErr result (self.new ≡ self.old) }
     {
@@ -96,6 +112,8 @@ impl<'a> States for TableStates<'a> {
     ghost is_sound = { IsTable };
 
     ghost is_later = { IsLater };
+
+    ghost is_ready = { λ _ _. Unit {0} };
 
     ghost later_keeps = { later_keeps };
 
@@ -118,7 +136,7 @@ impl<'a> States for TableStates<'a> {
         Ok(number)
     }
 
-    fn step(&mut self, state: u32, letter: u8) -> Result<u32, Memory> {
+    fn step(&mut self, _targets: &[u32], state: u32, letter: u8) -> Result<u32, Memory> {
         let from = self.state(state);
         let to = self.target(from, letter);
         let number = self.see(to)?;

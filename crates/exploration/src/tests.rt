@@ -2,7 +2,8 @@
 ghost use Rattle.std.specs.Prelude.{◌≡◌, [], length, IfSome};
 ghost use Rattle.exploration.specs.Table.{IsTable};
 
-use crate::{ExploreFault, ShortlexGraph, TableStates, explore, first_nodes, quotient, refine};
+use crate::table::TableStates;
+use crate::{ExploreFault, ShortlexGraph, explore, first_nodes, quotient, refine};
 use std::alloc::Global;
 use std::test::Fail;
 use syn_words::Memory;
@@ -88,5 +89,28 @@ fn refines_in_several_rounds(rt: HostRuntime) -> Result<(), Fail> {
     let partition = refine(rt.alloc(), &graph, &[false, false, false, false, true])?;
     assert_eq!(rt; partition.classes(), [0, 1, 2, 3, 4].as_slice());
     assert_eq!(rt; partition.class_of(3), 3);
+    Ok(())
+}
+
+/// A chain of 64,000 nodes whose last one is marked: each node is a class of its own. Moore's rounds alone, one for each
+/// node, would take longer than a test may.
+#[test]
+fn refines_a_long_chain(rt: HostRuntime) -> Result<(), Fail> {
+    let alloc = rt.alloc();
+    let size = 64_000;
+    let mut targets = Vec::new(alloc);
+    for node in 0..size {
+        targets.push(if node + 1 < size { node + 1 } else { node })?;
+        targets.push(0)?;
+    }
+    let mut states = table(alloc, size, 2, 0, targets.as_slice()).expect(&rt, "a table");
+    let graph = explore(alloc, &mut states, size)?;
+    let mut marks = Vec::new(alloc);
+    for node in 0..graph.size() {
+        marks.push(node + 1 == graph.size())?;
+    }
+    assert!(rt; marks.len() == graph.size() as usize);
+    let partition = refine(alloc, &graph, marks.as_slice())?;
+    assert_eq!(rt; partition.count(), size);
     Ok(())
 }

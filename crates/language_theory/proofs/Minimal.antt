@@ -7,10 +7,10 @@ use Rattle.language_theory.specs.Words.{Over, word_at}
 use Rattle.language_theory.specs.Automaton.{is_marked}
 use Rattle.language_theory.specs.Congruence.{Syntactic, Agree, MapsAlike}
 use Rattle.language_theory.specs.Languages.{HaveSameWords}
-use Rattle.language_theory.specs.Nerode.{Nerode, MinimalAutomaton, IsMinimal}
+use Rattle.language_theory.specs.Nerode.{Nerode, MinimalAutomaton, IsMinimal, accepted}
 use Rattle.language_theory.specs.ShortlexGraph.{Graph, target, walk, node, SameNode, IsShortlex, IsQuotient, AreFirstWords, Alike, IsCoarsest}
 use Rattle.language_theory.proofs.Shortlex.{over_append}
-use Rattle.language_theory.proofs.Congruences.{both_directions, syntactic_by_nerode, nerode_agrees}
+use Rattle.language_theory.proofs.Congruences.{both_directions, other_direction, syntactic_by_nerode, nerode_agrees}
 use Rattle.language_theory.proofs.Graphs.{walk_append, node_within, node_word_over, one_graph, agreeing_graph}
 use Rattle.language_theory.proofs.Quotients.{quotient_node, quotient_shortlex}
 
@@ -129,6 +129,12 @@ agreeing_minimal k L M d a h = record {
   long = h.long;
   final = λ w o. both_directions (h.final w o) (a.both w o);
 }
+
+-- a minimal automaton is that of the language that it accepts
+pub minimal_of_accepted : (k : ℕ) (L : List ℕ → Type 0) (d : MinimalAutomaton) → IsMinimal k L d
+    → IsMinimal k (accepted d) d
+minimal_of_accepted k L d h =
+    agreeing_minimal k L (accepted d) d (record { both = λ w o. other_direction (h.final w o) }) h
 
 -- a language has one minimal automaton
 pub one_minimal : (k : ℕ) (L : List ℕ → Type 0) (c d : MinimalAutomaton) → IsMinimal k L c

@@ -21,3 +21,7 @@ pub record IsMinimal (k : ℕ) (L : List ℕ → Type 0) (m : MinimalAutomaton) 
   pub classes : IsGraphOf k (Nerode k L) m.graph m.words
   pub long : length m.finals ≡ m.graph.size
   pub final : (w : List ℕ) → Over k w → IsTrue (is_marked m.finals (node m.graph w)) ↔ L w
+
+-- the language of such an automaton: the words that lead to its final nodes
+abbrev pub accepted : MinimalAutomaton → List ℕ → Type 0
+accepted m w = IsTrue (is_marked m.finals (node m.graph w))

@@ -5,7 +5,7 @@ ghost use Rattle.language_theory.specs.Words.{Over};
 ghost use Rattle.language_theory.specs.Automaton.{is_marked};
 ghost use Rattle.language_theory.specs.Congruence.{Syntactic, Agree, MapsAlike};
 ghost use Rattle.language_theory.specs.Languages.{HaveSameWords};
-ghost use Rattle.language_theory.specs.Nerode.{Nerode, IsMinimal, MinimalAutomaton};
+ghost use Rattle.language_theory.specs.Nerode.{Nerode, IsMinimal, MinimalAutomaton, accepted};
 ghost use Rattle.language_theory.specs.ShortlexGraph.{Graph, node, target, SameNode, IsShortlex, IsQuotient, AreFirstWords, IsCoarsest};
 
 use crate::language::Language;
@@ -37,4 +37,10 @@ pub fn minimal_nodes_tell_words_apart<L: Language>()
         → Agree k (Nerode k L.has) (SameNode d.graph) }
     ensures syntactic { (k : ℕ) (d : MinimalAutomaton) → IsMinimal k L.has d
         → Agree k (Syntactic k L.has) (MapsAlike d.graph.size (target d.graph)) }
+{}
+
+/// A language's minimal automaton accepts that language, and is the minimal automaton of the language that it accepts.
+pub fn minimal_automata_accept_their_languages<L: Language>()
+    ensures words { (k : ℕ) (d : MinimalAutomaton) → IsMinimal k L.has d → HaveSameWords k (accepted d) L.has }
+    ensures minimal { (k : ℕ) (d : MinimalAutomaton) → IsMinimal k L.has d → IsMinimal k (accepted d) d }
 {}

@@ -1,5 +1,5 @@
 -- Rows of marks that words lead to, and the states that words reach.
-use Rattle.std.proofs.Common.{◌≡◌, ℕ, ◌+◌, ◌<◌, ◌↔◌, ◌⊎◌, inl, inr, Bool, true, false, IsTrue, List, [], ◌∷◌, ◌++◌, length, get_or, set, take, replicate, Contains, refl, ap, sym, subst, ◌∙◌, arith}
+use Rattle.std.proofs.Common.{◌≡◌, ℕ, ◌+◌, ◌<◌, ◌≤◌, ◌↔◌, ◌⊎◌, inl, inr, Bool, true, false, IsTrue, List, [], ◌∷◌, ◌++◌, length, get_or, set, take, replicate, Contains, refl, ap, sym, subst, ◌∙◌, arith}
 use Rattle.std.specs.List.{list_any}
 use Rattle.std.specs.Cmp.{both_ways as equal_tests}
 use Rattle.std.proofs.lemmas.Bool.{both_ways, cases_lt}
@@ -15,108 +15,163 @@ use Rattle.subset_minimal.specs.Subsets.{comes_from, successor, set_from, set_of
 
 -- ---- one letter
 
-pub successor_long : (m : Automaton) (marks : List Bool) (a : ℕ) → length (successor m marks a) ≡ m.states
+pub successor_long : (m : Automaton) (marks : List Bool) (a : ℕ)
+    → length (successor m marks a) ≡ m.states
 unfolding successor
 successor_long m marks a = length-map-range_with_len _ 0 m.states
 
-successor_at : (m : Automaton) (marks : List Bool) (a q : ℕ) → q < m.states → is_marked (successor m marks a) q ≡ list_any (comes_from marks a q) m.steps
+successor_at : (m : Automaton) (marks : List Bool) (a q : ℕ) → q < m.states
+    → is_marked (successor m marks a) q ≡ list_any (comes_from marks a q) m.steps
 unfolding successor
-successor_at m marks a q h = get_or-map-range_with_len (λ q. list_any (comes_from marks a q) m.steps) 0 m.states q q false h (omega arith)
+successor_at m marks a q h = get_or-map-range_with_len
+    (λ q. list_any (comes_from marks a q) m.steps) 0 m.states q q false h (omega arith)
 
 -- a marked step from a state to q is a step to q
-comes_from-step : (marks : List Bool) (a q : ℕ) (s : ℕ × ℕ × ℕ) → comes_from marks a q s ≡ true → (is_marked marks s.0 ≡ true) × (is_step s.0 a q s ≡ true)
+comes_from-step : (marks : List Bool) (a q : ℕ) (s : ℕ × ℕ × ℕ) → comes_from marks a q s ≡ true
+    → (is_marked marks s.0 ≡ true) × (is_step s.0 a q s ≡ true)
 comes_from-step marks a q s h = grind (arith, common_steps)
 
-step-comes_from : (marks : List Bool) (p a q : ℕ) (s : ℕ × ℕ × ℕ) → is_marked marks p ≡ true → is_step p a q s ≡ true → comes_from marks a q s ≡ true
+step-comes_from : (marks : List Bool) (p a q : ℕ) (s : ℕ × ℕ × ℕ) → is_marked marks p ≡ true
+    → is_step p a q s ≡ true → comes_from marks a q s ≡ true
 step-comes_from marks p a q s h k = grind (arith, common_steps)
 
 -- the marks of the next set are the targets of the marked states
-pub successor_marks : (m : Automaton) (marks : List Bool) (a q : ℕ) → IsAutomaton m → q < m.states → IsTrue (is_marked (successor m marks a) q) ↔ ((p : ℕ) × (p < m.states) × IsTrue (is_marked marks p) × IsTrue (has_step m p a q))
+pub successor_marks : (m : Automaton) (marks : List Bool) (a q : ℕ) → IsAutomaton m → q < m.states
+    → IsTrue (is_marked (successor m marks a) q)
+    ↔ ((p : ℕ) × (p < m.states) × IsTrue (is_marked marks p) × IsTrue (has_step m p a q))
 successor_marks m marks a q good hq = (to, from)
   where
-    to : IsTrue (is_marked (successor m marks a) q) → (p : ℕ) × (p < m.states) × IsTrue (is_marked marks p) × IsTrue (has_step m p a q)
+    to : IsTrue (is_marked (successor m marks a) q)
+        → (p : ℕ) × (p < m.states) × IsTrue (is_marked marks p) × IsTrue (has_step m p a q)
     to h =
-        let (i, s, within, at, comes) = Any-from_list_any (comes_from marks a q) m.steps (sym (successor_at m marks a q hq) ∙ h) in
+        let (i, s, within, at, comes) = Any-from_list_any (comes_from marks a q) m.steps
+        (sym (successor_at m marks a q hq) ∙ h) in
         let (marked, step) = comes_from-step marks a q s comes in
-        let bound : s.0 < m.states = subst (λ (t : ℕ × ℕ × ℕ). t.0 < m.states) at (good.from i s within) in
-        (s.0, bound, marked, list_any_at (is_step s.0 a q) m.steps i s within (ap (is_step s.0 a q) at ∙ step))
+        let bound : s.0 < m.states =
+        subst (λ (t : ℕ × ℕ × ℕ). t.0 < m.states) at (good.from i s within) in (
+          s.0,
+          bound,
+          marked,
+          list_any_at (is_step s.0 a q) m.steps i s within (ap (is_step s.0 a q) at ∙ step),
+        )
 
-    from : (p : ℕ) × (p < m.states) × IsTrue (is_marked marks p) × IsTrue (has_step m p a q) → IsTrue (is_marked (successor m marks a) q)
+    from : (p : ℕ) × (p < m.states) × IsTrue (is_marked marks p) × IsTrue (has_step m p a q)
+        → IsTrue (is_marked (successor m marks a) q)
     from (p, hp, marked, found) =
         let (i, s, within, at, step) = Any-from_list_any (is_step p a q) m.steps found in
-        successor_at m marks a q hq ∙ list_any_at (comes_from marks a q) m.steps i s within (ap (comes_from marks a q) at ∙ step-comes_from marks p a q s marked step)
+        successor_at m marks a q hq ∙ list_any_at (comes_from marks a q) m.steps i s within
+        (ap (comes_from marks a q) at ∙ step-comes_from marks p a q s marked step)
 
 -- ---- words
 
-pub set_from_long : (m : Automaton) (marks : List Bool) (w : List ℕ) → length marks ≡ m.states → length (set_from m marks w) ≡ m.states
+pub set_from_long : (m : Automaton) (marks : List Bool) (w : List ℕ) → length marks ≡ m.states
+    → length (set_from m marks w) ≡ m.states
 set_from_long m marks [] h = h
 set_from_long m marks (a ∷ w) h = set_from_long m (successor m marks a) w (successor_long m marks a)
 
-pub set_from_last : (m : Automaton) (marks : List Bool) (w : List ℕ) (a : ℕ) → set_from m marks (w ++ a ∷ []) ≡ successor m (set_from m marks w) a
+set_from_last : (m : Automaton) (marks : List Bool) (w : List ℕ) (a : ℕ)
+    → set_from m marks (w ++ a ∷ []) ≡ successor m (set_from m marks w) a
 set_from_last m marks [] a = refl
 set_from_last m marks (b ∷ w) a = set_from_last m (successor m marks b) w a
 
+pub set_of_last : (m : Automaton) (w : List ℕ) (a : ℕ)
+    → set_of m (w ++ a ∷ []) ≡ successor m (set_of m w) a
+set_of_last m w a = set_from_last m m.initial w a
+
 -- the marks are those of the states to which the word leads from marked states
-set_from_marks : (m : Automaton) (marks : List Bool) (w : List ℕ) (r : ℕ) → IsAutomaton m → r < m.states → IsTrue (is_marked (set_from m marks w) r) ↔ ((p : ℕ) × (p < m.states) × IsTrue (is_marked marks p) × Leads m p w r)
-set_from_marks m marks [] r good hr = (λ h. (r, hr, h, refl), λ x. let (p, hp, marked, e) = x in subst (λ q. IsTrue (is_marked marks q)) e marked)
-set_from_marks m marks (a ∷ w) r good hr = let rest = set_from_marks m (successor m marks a) w r good hr in (to rest.0, from rest.1)
+set_from_marks : (m : Automaton) (marks : List Bool) (w : List ℕ) (r : ℕ) → IsAutomaton m
+    → r < m.states → IsTrue (is_marked (set_from m marks w) r)
+    ↔ ((p : ℕ) × (p < m.states) × IsTrue (is_marked marks p) × Leads m p w r)
+set_from_marks m marks [] r good hr = (
+  λ h. (r, hr, h, refl),
+  λ x. let (p, hp, marked, e) =
+      x in subst (λ q. IsTrue (is_marked marks q)) e marked,
+)
+set_from_marks m marks (a ∷ w) r good hr = let rest =
+    set_from_marks m (successor m marks a) w r good hr in (to rest.0, from rest.1)
   where
-    to : (IsTrue (is_marked (set_from m (successor m marks a) w) r) → (q : ℕ) × (q < m.states) × IsTrue (is_marked (successor m marks a) q) × Leads m q w r) → IsTrue (is_marked (set_from m (successor m marks a) w) r) → (p : ℕ) × (p < m.states) × IsTrue (is_marked marks p) × Leads m p (a ∷ w) r
+    to : (IsTrue (is_marked (set_from m (successor m marks a) w) r)
+        → (q : ℕ) × (q < m.states) × IsTrue (is_marked (successor m marks a) q) × Leads m q w r)
+        → IsTrue (is_marked (set_from m (successor m marks a) w) r)
+        → (p : ℕ) × (p < m.states) × IsTrue (is_marked marks p) × Leads m p (a ∷ w) r
     to rest h =
         let (q, hq, next, leads) = rest h in
         let (p, hp, marked, step) = (successor_marks m marks a q good hq).0 next in
         (p, hp, marked, (q, (hq, step), leads))
 
-    from : ((q : ℕ) × (q < m.states) × IsTrue (is_marked (successor m marks a) q) × Leads m q w r → IsTrue (is_marked (set_from m (successor m marks a) w) r)) → (p : ℕ) × (p < m.states) × IsTrue (is_marked marks p) × Leads m p (a ∷ w) r → IsTrue (is_marked (set_from m (successor m marks a) w) r)
-    from rest (p, hp, marked, (q, (hq, step), leads)) = rest (q, hq, (successor_marks m marks a q good hq).1 (p, hp, marked, step), leads)
+    from : ((q : ℕ) × (q < m.states) × IsTrue (is_marked (successor m marks a) q) × Leads m q w r
+        → IsTrue (is_marked (set_from m (successor m marks a) w) r))
+        → (p : ℕ) × (p < m.states) × IsTrue (is_marked marks p) × Leads m p (a ∷ w) r
+        → IsTrue (is_marked (set_from m (successor m marks a) w) r)
+    from rest (p, hp, marked, (q, (hq, step), leads)) =
+        rest (q, hq, (successor_marks m marks a q good hq).1 (p, hp, marked, step), leads)
 
 pub set_of_long : (m : Automaton) (w : List ℕ) → IsAutomaton m → length (set_of m w) ≡ m.states
 set_of_long m w good = set_from_long m m.initial w good.initial
 
 -- the set of a word has the states that the word reaches
-pub set_of_marks : (m : Automaton) (w : List ℕ) (r : ℕ) → IsAutomaton m → r < m.states → IsTrue (is_marked (set_of m w) r) ↔ IsReached m w r
+pub set_of_marks : (m : Automaton) (w : List ℕ) (r : ℕ) → IsAutomaton m → r < m.states
+    → IsTrue (is_marked (set_of m w) r) ↔ IsReached m w r
 set_of_marks m w r good hr = (
-  λ h. let (p, hp, marked, leads) = (set_from_marks m m.initial w r good hr).0 h in (p, (hp, marked), leads),
-  λ x. let (p, (hp, marked), leads) = x in (set_from_marks m m.initial w r good hr).1 (p, hp, marked, leads),
+  λ h. let (p, hp, marked, leads) =
+      (set_from_marks m m.initial w r good hr).0 h in (p, (hp, marked), leads),
+  λ x. let (p, (hp, marked), leads) =
+      x in (set_from_marks m m.initial w r good hr).1 (p, hp, marked, leads),
 )
 
 -- words reach the same states exactly where their sets are equal
-pub same_sets : (m : Automaton) (u v : List ℕ) → IsAutomaton m → (set_of m u ≡ set_of m v) ↔ SameSubset m u v
+pub same_sets : (m : Automaton) (u v : List ℕ) → IsAutomaton m
+    → (set_of m u ≡ set_of m v) ↔ SameSubset m u v
 same_sets m u v good = (λ e r. (half u v e r, half v u (sym e) r), from)
   where
     half : (u v : List ℕ) → set_of m u ≡ set_of m v → (r : ℕ) → IsReached m u r → IsReached m v r
     half u v e r h =
         let hr = reached_within m u r h in
-        (set_of_marks m v r good hr).0 (subst (λ marks. IsTrue (is_marked marks r)) e ((set_of_marks m u r good hr).1 h))
+        (set_of_marks m v r good hr).0
+        (subst (λ marks. IsTrue (is_marked marks r)) e ((set_of_marks m u r good hr).1 h))
 
     from : SameSubset m u v → set_of m u ≡ set_of m v
-    from same = ext_get_or false (set_of m u) (set_of m v) (set_of_long m u good ∙ sym (set_of_long m v good)) (λ r l.
+    from same = ext_get_or false (set_of m u) (set_of m v)
+        (set_of_long m u good ∙ sym (set_of_long m v good)) (λ r l.
         let hr : r < m.states = subst (λ n. r < n) (set_of_long m u good) l in
         let a = set_of_marks m u r good hr in
         let b = set_of_marks m v r good hr in
-        equal_tests (is_marked (set_of m u) r) (is_marked (set_of m v) r) (λ h. b.1 ((same r).0 (a.0 h))) (λ h. a.1 ((same r).1 (b.0 h))))
+        equal_tests (is_marked (set_of m u) r) (is_marked (set_of m v) r)
+        (λ h. b.1 ((same r).0 (a.0 h))) (λ h. a.1 ((same r).1 (b.0 h))))
 
 -- a word is accepted exactly where its set has a final state
-pub accepts_by_set : (m : Automaton) (w : List ℕ) → IsAutomaton m → HasFinal m (set_of m w) ↔ Accepts m w
+pub accepts_by_set : (m : Automaton) (w : List ℕ) → IsAutomaton m
+    → HasFinal m (set_of m w) ↔ Accepts m w
 accepts_by_set m w good = (
-  λ h. let (r, hr, marked, final) = h in (accepts_reached m w).1 (r, (set_of_marks m w r good hr).0 marked, final),
-  λ h. let (r, reached, final) = (accepts_reached m w).0 h in let hr = reached_within m w r reached in (r, hr, (set_of_marks m w r good hr).1 reached, final),
+  λ h. let (r, hr, marked, final) =
+      h in (accepts_reached m w).1 (r, (set_of_marks m w r good hr).0 marked, final),
+  λ h. let (r, reached, final) = (accepts_reached m w).0 h in let hr =
+      reached_within m w r reached in (r, hr, (set_of_marks m w r good hr).1 reached, final),
 )
 
 -- ---- states that are added to a set
 
 pub none_added : (marks : List Bool) (states : List ℕ) → AreAdded marks (take 0 states) marks
-none_added marks states = record { long = refl; each = λ q. (inl, λ h. elim h [ inl m ↦ m | inr c ↦ let (i, l, e) = c in absurd (omega arith) ]) }
+none_added marks states = record {
+  long = refl;
+  each =
+      λ q. (inl, λ h. elim h [ inl m ↦ m | inr c ↦ let (i, l, e) = c in absurd (omega arith) ]);
+}
 
-pub one_added : (old marks : List Bool) (states : List ℕ) (i q : ℕ) → i < length states → q ≡ get_or states i 0 → q < length old → AreAdded old (take i states) marks → AreAdded old (take (i + 1) states) (set marks q true)
-one_added old marks states i q l e within h = record { long = length-set marks q true ∙ h.long; each = λ p. (to p, from p) }
+pub one_added : (old marks : List Bool) (states : List ℕ) (i q : ℕ) → i < length states
+    → q ≡ get_or states i 0 → q < length old → AreAdded old (take i states) marks
+    → AreAdded old (take (i + 1) states) (set marks q true)
+one_added old marks states i q l e within h =
+    record { long = length-set marks q true ∙ h.long; each = λ p. (to p, from p) }
   where
     more : take (i + 1) states ≡ take i states ++ q ∷ []
     more = rw e (grind (arith, common_steps))
 
-    to : (p : ℕ) → IsTrue (is_marked (set marks q true) p) → IsTrue (is_marked old p) ⊎ Contains (take (i + 1) states) p
+    to : (p : ℕ) → IsTrue (is_marked (set marks q true) p)
+        → IsTrue (is_marked old p) ⊎ Contains (take (i + 1) states) p
     to p t = elim (equal_or_not p q) [
-      | inl f ↦ inr (rw (more, f) (Contains-append_right (take i states) (q ∷ []) q (0, omega arith, refl)))
+      | inl f ↦ inr (rw (more, f)
+          (Contains-append_right (take i states) (q ∷ []) q (0, omega arith, refl)))
       | inr n ↦ elim ((h.each p).0 (sym (get_or-set_other marks q p true false n) ∙ t)) [
         | inl m ↦ inl m
         | inr c ↦ inr (rw more (Contains-append_left (take i states) (q ∷ []) p c))
@@ -129,12 +184,15 @@ one_added old marks states i q l e within h = record { long = length-set marks q
       | inr n ↦ get_or-set_other marks q p true false n ∙ t
     ]
 
-    from : (p : ℕ) → IsTrue (is_marked old p) ⊎ Contains (take (i + 1) states) p → IsTrue (is_marked (set marks q true) p)
+    from : (p : ℕ) → IsTrue (is_marked old p) ⊎ Contains (take (i + 1) states) p
+        → IsTrue (is_marked (set marks q true) p)
     from p (inl m) = marked p ((h.each p).1 (inl m))
-    from p (inr c) = elim (Contains-append_cases (take i states) (q ∷ []) p (subst (λ xs. Contains xs p) more c)) [
-      | inl d ↦ marked p ((h.each p).1 (inr d))
-      | inr d ↦ let (j, lj, f) = d in let j0 : j ≡ 0 = omega arith in get_or-set_at marks q p true false (here j j0 f) (rw h.long within)
-    ]
+    from p (inr c) = elim (Contains-append_cases (take i states) (q ∷ []) p
+        (subst (λ xs. Contains xs p) more c)) [
+          | inl d ↦ marked p ((h.each p).1 (inr d))
+          | inr d ↦ let (j, lj, f) = d in let j0 : j ≡ 0 =
+              omega arith in get_or-set_at marks q p true false (here j j0 f) (rw h.long within)
+        ]
       where
         here : (j : ℕ) → j ≡ 0 → get_or (q ∷ []) j p ≡ p → p ≡ q
         here j j0 f = sym (subst (λ (n : ℕ). get_or (q ∷ []) n p ≡ p) j0 f)
@@ -142,48 +200,80 @@ one_added old marks states i q l e within h = record { long = length-set marks q
 -- ---- a set that is made state by state
 
 -- the marked states are the targets of the states below n that are in the set
-pub record AreTargetsBelow (m : Automaton) (members : List Bool) (a n : ℕ) (marks : List Bool) : Type 0 where
+pub record AreTargetsBelow (m : Automaton) (members : List Bool) (a n : ℕ)
+    (marks : List Bool) : Type 0 where
   pub long : length marks ≡ m.states
-  pub each : (q : ℕ) → q < m.states → IsTrue (is_marked marks q) ↔ ((p : ℕ) × (p < n) × IsTrue (is_marked members p) × Contains (targets_of m p a) q)
+  pub each : (q : ℕ) → q < m.states → IsTrue (is_marked marks q)
+      ↔ ((p : ℕ) × (p < n) × IsTrue (is_marked members p) × Contains (targets_of m p a) q)
 
-pub none_below : (m : Automaton) (members : List Bool) (a n : ℕ) → n ≡ m.states → AreTargetsBelow m members a 0 (replicate n false)
+pub none_below : (m : Automaton) (members : List Bool) (a n : ℕ) → n ≡ m.states
+    → AreTargetsBelow m members a 0 (replicate n false)
 none_below m members a n e = record {
   long = length-replicate n false ∙ e;
-  each = λ q h. (λ t. absurd (both_ways (is_marked (replicate n false) q) (get_or-replicate n q false false (rw e h)) t), λ x. let (p, l, _, _) = x in absurd (omega arith));
+  each = λ q h. (
+    λ t. absurd (both_ways (is_marked (replicate n false) q)
+        (get_or-replicate n q false false (rw e h)) t),
+    λ x. let (p, l, _, _) =
+        x in absurd (omega arith),
+  );
 }
 
 -- a member adds its targets
-pub more_below : (m : Automaton) (members : List Bool) (a n : ℕ) (old new : List Bool) → IsTrue (is_marked members n) → AreAdded old (targets_of m n a) new → AreTargetsBelow m members a n old → AreTargetsBelow m members a (n + 1) new
-more_below m members a n old new marked added h = record { long = added.long ∙ h.long; each = λ q l. (to q l, from q l) }
+pub more_below : (m : Automaton) (members : List Bool) (a n : ℕ) (old new : List Bool)
+    → IsTrue (is_marked members n) → AreAdded old (targets_of m n a) new
+    → AreTargetsBelow m members a n old → AreTargetsBelow m members a (n + 1) new
+more_below m members a n old new marked added h =
+    record { long = added.long ∙ h.long; each = λ q l. (to q l, from q l) }
   where
-    to : (q : ℕ) → q < m.states → IsTrue (is_marked new q) → (p : ℕ) × (p < n + 1) × IsTrue (is_marked members p) × Contains (targets_of m p a) q
+    to : (q : ℕ) → q < m.states → IsTrue (is_marked new q)
+        → (p : ℕ) × (p < n + 1) × IsTrue (is_marked members p) × Contains (targets_of m p a) q
     to q l t = elim ((added.each q).0 t) [
       | inl o ↦ let (p, lp, s, c) = (h.each q l).0 o in (p, omega arith, s, c)
       | inr c ↦ (n, omega arith, marked, c)
     ]
 
-    from : (q : ℕ) → q < m.states → (p : ℕ) × (p < n + 1) × IsTrue (is_marked members p) × Contains (targets_of m p a) q → IsTrue (is_marked new q)
+    from : (q : ℕ) → q < m.states → (p : ℕ) × (p < n + 1) × IsTrue (is_marked members p)
+        × Contains (targets_of m p a) q → IsTrue (is_marked new q)
     from q l (p, lp, s, c) = elim (cases_lt p n) [
       | inl i ↦ (added.each q).1 (inl ((h.each q l).1 (p, i, s, c)))
-      | inr i ↦ let e : p ≡ n = omega arith in (added.each q).1 (inr (subst (λ p. Contains (targets_of m p a) q) e c))
+      | inr i ↦ let e : p ≡ n =
+          omega arith in (added.each q).1 (inr (subst (λ p. Contains (targets_of m p a) q) e c))
     ]
 
--- a state that is no member adds nothing
-pub same_below : (m : Automaton) (members : List Bool) (a n : ℕ) (marks : List Bool) → is_marked members n ≡ false → AreTargetsBelow m members a n marks → AreTargetsBelow m members a (n + 1) marks
-same_below m members a n marks unmarked h = record { long = h.long; each = λ q l. (to q l, from q l) }
+-- states that are no members add nothing
+pub skipped_below : (m : Automaton) (members : List Bool) (a n k : ℕ) (marks : List Bool) → n ≤ k
+    → ((q : ℕ) → n ≤ q → q < k → is_marked members q ≡ false) → AreTargetsBelow m members a n marks
+    → AreTargetsBelow m members a k marks
+skipped_below m members a n k marks g bare h =
+    record { long = h.long; each = λ q l. (to q l, from q l) }
   where
-    to : (q : ℕ) → q < m.states → IsTrue (is_marked marks q) → (p : ℕ) × (p < n + 1) × IsTrue (is_marked members p) × Contains (targets_of m p a) q
+    to : (q : ℕ) → q < m.states → IsTrue (is_marked marks q)
+        → (p : ℕ) × (p < k) × IsTrue (is_marked members p) × Contains (targets_of m p a) q
     to q l t = let (p, lp, s, c) = (h.each q l).0 t in (p, omega arith, s, c)
 
-    from : (q : ℕ) → q < m.states → (p : ℕ) × (p < n + 1) × IsTrue (is_marked members p) × Contains (targets_of m p a) q → IsTrue (is_marked marks q)
+    from : (q : ℕ) → q < m.states → (p : ℕ) × (p < k) × IsTrue (is_marked members p)
+        × Contains (targets_of m p a) q → IsTrue (is_marked marks q)
     from q l (p, lp, s, c) = elim (cases_lt p n) [
       | inl i ↦ (h.each q l).1 (p, i, s, c)
-      | inr i ↦ let e : p ≡ n = omega arith in absurd (both_ways (is_marked members n) unmarked (subst (λ p. IsTrue (is_marked members p)) e s))
+      | inr i ↦ absurd (both_ways (is_marked members p) (bare p i lp) s)
     ]
 
 -- with all states the set is the successor
-pub all_below : (m : Automaton) (members : List Bool) (a : ℕ) (marks : List Bool) → IsAutomaton m → AreTargetsBelow m members a m.states marks → marks ≡ successor m members a
-all_below m members a marks good h = ext_get_or false marks (successor m members a) (h.long ∙ sym (successor_long m members a)) (λ q l.
+pub all_below : (m : Automaton) (members : List Bool) (a : ℕ) (marks : List Bool) → IsAutomaton m
+    → AreTargetsBelow m members a m.states marks → marks ≡ successor m members a
+all_below m members a marks good h = ext_get_or false marks (successor m members a)
+    (h.long ∙ sym (successor_long m members a)) (λ q l.
     let hq : q < m.states = subst (λ n. q < n) h.long l in
     let s = successor_marks m members a q good hq in
-    equal_tests (is_marked marks q) (is_marked (successor m members a) q) (λ t. let (p, lp, i, c) = (h.each q hq).0 t in s.1 (p, lp, i, (target_listed m p a q).1 c)) (λ t. let (p, lp, i, f) = s.0 t in (h.each q hq).1 (p, lp, i, (target_listed m p a q).0 f)))
+    equal_tests (is_marked marks q) (is_marked (successor m members a) q)
+    (λ t. let (p, lp, i, c) = (h.each q hq).0 t in s.1 (p, lp, i, (target_listed m p a q).1 c))
+    (λ t. let (p, lp, i, f) = s.0 t in (h.each q hq).1 (p, lp, i, (target_listed m p a q).0 f)))
+
+-- from a number on no state is a member
+pub all_walked : (m : Automaton) (members : List Bool) (a from : ℕ) (marks : List Bool)
+    → IsAutomaton m → from ≤ m.states
+    → ((q : ℕ) → from ≤ q → is_marked members q ≡ false) → AreTargetsBelow m members a from marks
+    → marks ≡ successor m members a
+all_walked m members a from marks good l none h =
+    all_below m members a marks good
+    (skipped_below m members a from m.states marks l (λ q g _. none q g) h)

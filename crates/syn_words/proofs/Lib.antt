@@ -1,3 +1,4 @@
 pub mod Rows
+pub mod FlatRows
 pub mod Marks
 pub mod Steps

@@ -5,4 +5,5 @@ use Rattle.exploration.proofs.Rounds.{AreInterned}
 use Rattle.exploration.proofs.refinement.split.Given as goal
 
 abbrev pub invariant-loop-node : goal.invariant-loop-node
-invariant-loop-node l = IsGraph l.graph × (l.node-end ≡ l.graph.size) × (l.classes ≡ l.fn.coarse.classes) × AreInterned (signature l.graph l.marks l.fn.coarse.classes) l.node l.seen.keys l.finer.items
+invariant-loop-node l = IsGraph l.graph × (l.node-end ≡ l.graph.size)
+    × AreInterned (signature l.graph l.marks l.classes) l.node l.seen.keys l.finer.items

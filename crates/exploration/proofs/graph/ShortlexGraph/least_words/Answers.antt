@@ -4,8 +4,11 @@ use Rattle.exploration.proofs.graph.ShortlexGraph.least_words.Goals as goal
 
 pub loop-node-init : goal.loop-node-init
 loop-node-init c =
-    let first : c.push.new.self.items ≡ [] ∷ [] = c.in_ok-push.ensures.items ∙ cc (c.new-words.ensures.items, c.new.ensures) in
-    (c.size-node-end.ensures.size, listing_begins c.args.self.now _ c.requires.0 _ (omega arith) c.requires.1 first)
+    let first : c.push.new.self.items ≡ [] ∷ [] = c.in_ok-push.ensures.items
+    ∙ cc (c.new-words.ensures.items, c.new.ensures) in (
+      c.size-node-end.ensures.size,
+      listing_begins c.args.self.now _ c.requires.0 _ (omega arith) c.requires.1 first,
+    )
 
 pub returns : goal.returns
 returns c =

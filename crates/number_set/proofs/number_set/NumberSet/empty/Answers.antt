@@ -1,0 +1,16 @@
+use Rattle.std.proofs.Common.{◌≡◌, ◌+◌, ◌/◌, arith, rules, false, replicate}
+use Rattle.number_set.proofs.Packing.{Holds, empty_holds, held_words, held_marks}
+use Rattle.number_set.proofs.number_set.NumberSet.empty.Goals as goal
+
+made : (c : goal.In_ok-words)
+    → Holds c.args.size c.in_ok-words.words.items (replicate c.args.size false)
+made c =
+    let many : c.div_ceil.result ≡ (c.args.size + 63) / 64 = omega (arith, c.div_ceil.ensures) in
+    let zeros : c.in_ok-words.words.items ≡ replicate c.div_ceil.result 0 = search rules in
+    rw (zeros, many) (empty_holds c.args.size)
+
+pub invariant_of-result : goal.invariant_of-result
+invariant_of-result c = held_words _ _ _ (made c)
+
+pub returns : goal.returns
+returns c = held_marks _ _ _ (made c)
