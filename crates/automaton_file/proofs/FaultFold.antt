@@ -5,7 +5,8 @@ use Rattle.std.specs.Option.{option_or}
 use Rattle.std.specs.List.{list_all}
 use Rattle.std.proofs.lemmas.Bool.{and_parts, not-true, le-leb}
 use Rattle.automaton_file.specs.LineText.{is_plain, fields, is_significant, parts}
-use Rattle.automaton_file.specs.FileText.{Lines, unless, part_fault, is_whole, is_expr, letters_in, state_count, automaton_fault, step_fault}
+use Rattle.automaton_file.specs.FileText.{unless, part_fault, is_whole, is_expr, letters_in, state_count, automaton_fault, step_fault}
+use Rattle.automaton_file.specs.Parts.{Lines}
 use Rattle.automaton_file.specs.Reading.{is_skipped, IsSkip, fault_else, faults_by, first_fault, automaton_first_fault, steps_first_fault, nothing_first_fault}
 
 -- the test of a line, whole

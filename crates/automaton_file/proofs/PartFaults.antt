@@ -4,7 +4,9 @@ use Rattle.std.specs.Prelude.{Bool, true, false, cond, nat_le, codes, Option, So
 use Rattle.syn_words.specs.Nfa.{bare, with_final}
 use Rattle.language_theory.specs.Automaton.{Automaton}
 use Rattle.automaton_file.specs.LineText.{text_lines, fields, parts, behind_first}
-use Rattle.automaton_file.specs.FileText.{Lines, step_fault, marks_fault, automaton_fault, is_expr, state_count, letters_in, with_line, with_step_line, with_step_lines, automaton_of, OfAutomaton, OfExpression, SpellsSource}
+use Rattle.automaton_file.specs.FileText.{step_fault, marks_fault, automaton_fault, is_expr, state_count, letters_in, OfAutomaton, OfExpression}
+use Rattle.automaton_file.specs.Parts.{Lines}
+use Rattle.automaton_file.specs.Reading.{with_line, with_step_line, with_step_lines, automaton_of, ReadsSource}
 use Rattle.expression_theory.specs.Scan.{classes, SpellsTree}
 use Rattle.regex_reader.specs.declared.expr.Expr as reader
 use Rattle.regex_reader.specs.Expressions.{tree_of}
@@ -108,10 +110,10 @@ head_faults bytes head count h e =
     ∙ ap (λ (n : ℕ). automaton_first_fault head.alphabet n [] head.next.number (lines_from bytes head.next)) begins.1
 
 -- the lines behind the body line spell the automaton
-pub head_automaton : (bytes : List ℕ) (head : Head) (count : ℕ) (m : Automaton) → IsHead bytes head → head.body ≡ Nfa count → m ≡ automaton_of head.alphabet (bare count (length head.alphabet)) (parts (lines_from bytes head.next)) → SpellsSource (parts (text_lines bytes)) (record { letters = head.alphabet; body = OfAutomaton m })
+pub head_automaton : (bytes : List ℕ) (head : Head) (count : ℕ) (m : Automaton) → IsHead bytes head → head.body ≡ Nfa count → m ≡ automaton_of head.alphabet (bare count (length head.alphabet)) (parts (lines_from bytes head.next)) → ReadsSource (parts (text_lines bytes)) (record { letters = head.alphabet; body = OfAutomaton m })
 head_automaton bytes head count m h e same =
     let begins : (is_expr (fields h.body) ≡ false) × (state_count (fields h.body) ≡ count) × (1 ≤ count) × (count ≤ 1000) = subst (IsBodyLine head.alphabet h.body) e h.begins in
-    subst (λ (ps : Lines). SpellsSource ps (record { letters = head.alphabet; body = OfAutomaton m })) (sym h.parts) (
+    subst (λ (ps : Lines). ReadsSource ps (record { letters = head.alphabet; body = OfAutomaton m })) (sym h.parts) (
       h.letters,
       (
         begins.0,
@@ -129,10 +131,10 @@ head_nothing bytes head expr h e =
     let begins = subst (IsBodyLine head.alphabet h.body) e h.begins in
     h.faults ∙ faults_of_expression h.header h.alphabet h.body head.next.number (lines_from bytes head.next) begins.0
 
-pub head_expression : (bytes : List ℕ) (head : Head) (expr : reader.Expr) → IsHead bytes head → head.body ≡ Expr expr → SpellsSource (parts (text_lines bytes)) (record { letters = head.alphabet; body = OfExpression (tree_of expr) })
+pub head_expression : (bytes : List ℕ) (head : Head) (expr : reader.Expr) → IsHead bytes head → head.body ≡ Expr expr → ReadsSource (parts (text_lines bytes)) (record { letters = head.alphabet; body = OfExpression (tree_of expr) })
 head_expression bytes head expr h e =
     let begins = subst (IsBodyLine head.alphabet h.body) e h.begins in
-    subst (λ (ps : Lines). SpellsSource ps (record { letters = head.alphabet; body = OfExpression (tree_of expr) })) (sym h.parts)
+    subst (λ (ps : Lines). ReadsSource ps (record { letters = head.alphabet; body = OfExpression (tree_of expr) })) (sym h.parts)
     (h.letters, (begins.0, subst (λ (letters : List ℕ). SpellsTree (classes letters (behind_first h.body)) (tree_of expr)) h.letters begins.1))
 
 -- a significant line where none may stand

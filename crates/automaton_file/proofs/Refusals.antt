@@ -4,7 +4,9 @@ use Rattle.std.specs.Prelude.{Bool, cond, Option, Some, None, nat_lt, ◌⊎◌,
 use Rattle.std.specs.Option.{option_or, unwrap_or}
 use Rattle.std.proofs.lemmas.Bool.{lt-ltb, le-ltb, cases_lt}
 use Rattle.automaton_file.specs.LineText.{text_lines, fields, is_plain, is_significant, parts, behind_first}
-use Rattle.automaton_file.specs.FileText.{Lines, most_bytes, unless, line_fault, part_fault, is_whole, is_expr, state_count, letters_in, body_fault, automaton_of, BodyText, OfAutomaton, OfExpression, SourceText, SpellsBody, SpellsSource, IsSource, IsRefusal, IsFileRefusal, too_long, bad_line, missing_part}
+use Rattle.automaton_file.specs.FileText.{most_bytes, unless, line_fault, part_fault, is_whole, is_expr, state_count, letters_in, body_fault, BodyText, OfAutomaton, OfExpression, SourceText, IsRefusal, IsFileRefusal, too_long, bad_line, missing_part}
+use Rattle.automaton_file.specs.Parts.{Lines}
+use Rattle.automaton_file.specs.Reading.{IsRead, automaton_of, ReadsBody, ReadsSource}
 use Rattle.automaton_file.specs.Reading.{fault_else, first_fault, IsFileFault}
 use Rattle.automaton_file.specs.declared.sources.FileFault.{FileFault}
 use Rattle.automaton_file.specs.declared.sources.FileFault.TheVariants.{Refused, Memory}
@@ -126,7 +128,7 @@ refusal_answer bytes at code (missing_part h k) =
     let same : 1 + length (text_lines bytes) ≡ length (text_lines bytes) + 1 = omega arith in
     answer_short bytes h ∙ missing_found [] 1 (text_lines bytes) k.passes k.missing ∙ ap (λ (n : ℕ). Some (n, 7)) same
 
-pub source_answer : (bytes : List ℕ) (s : SourceText) → IsSource bytes s → answer bytes ≡ None
+pub source_answer : (bytes : List ℕ) (s : SourceText) → IsRead bytes s → answer bytes ≡ None
 source_answer bytes s h = answer_short bytes h.short ∙ spelled_has_no_fault (text_lines bytes) h.spelled
 
 -- what the reader finds is the refusal
@@ -135,17 +137,17 @@ read_refusal bytes (Refused refusal) short found = fault_refusal bytes refusal.l
 read_refusal bytes Memory short h = tt
 
 -- a body line that passes its tests spells a body
-some_body : (letters line : List ℕ) (more : Lines) → body_fault letters line ≡ None → (body : BodyText) × SpellsBody letters line more body
+some_body : (letters line : List ℕ) (more : Lines) → body_fault letters line ≡ None → (body : BodyText) × ReadsBody letters line more body
 some_body letters line more pass = by (is_expr (fields line)) refl
   where
-    by : (b : Bool) → is_expr (fields line) ≡ b → (body : BodyText) × SpellsBody letters line more body
+    by : (b : Bool) → is_expr (fields line) ≡ b → (body : BodyText) × ReadsBody letters line more body
     by false e = (OfAutomaton (automaton_of letters (bare (state_count (fields line)) (length letters)) more), (e, refl))
     by true e =
         let tree = accepted_tree (classes letters (behind_first line)) (test_accepted _ (expression_passes letters line pass e)) in
         (OfExpression tree.0, (e, tree.1))
 
 -- each of the lines passes its test, behind earlier ones
-abbrev PartsPass : Lines → Lines → Type 0
+abbrev pub PartsPass : Lines → Lines → Type 0
 PartsPass earlier [] = ⊤
 PartsPass earlier (line ∷ more) = (part_fault earlier line ≡ None) × PartsPass (earlier ++ line ∷ []) more
 
@@ -153,7 +155,7 @@ second_none : (p : Bool) (o : Option ℕ) → option_or (unless p 10) o ≡ None
 second_none true o e = e
 second_none false o e = absurd (let wrong : Some 10 ≡ None = e in cc)
 
-parts_pass : (earlier : Lines) (number : ℕ) (texts : Lines) → first_fault earlier number texts ≡ None → PartsPass earlier (parts texts)
+pub parts_pass : (earlier : Lines) (number : ℕ) (texts : Lines) → first_fault earlier number texts ≡ None → PartsPass earlier (parts texts)
 parts_pass earlier number [] e = tt
 parts_pass earlier number (t ∷ ts) e =
     let both = no_fault (line_fault earlier t) number (first_fault (earlier ++ parts (t ∷ [])) (number + 1) ts) e in
@@ -163,7 +165,7 @@ parts_pass earlier number (t ∷ ts) e =
     by true pass more = (second_none (is_plain t) (part_fault earlier t) pass, more)
     by false pass more = subst (λ (es : Lines). PartsPass es (parts ts)) (append-nil earlier) more
 
-some_source : (parts : Lines) → is_whole parts ≡ true → PartsPass [] parts → (s : SourceText) × SpellsSource parts s
+some_source : (parts : Lines) → is_whole parts ≡ true → PartsPass [] parts → (s : SourceText) × ReadsSource parts s
 some_source [] whole pass = absurd (cc)
 some_source (header ∷ []) whole pass = absurd (cc)
 some_source (header ∷ alphabet ∷ []) whole pass = absurd (cc)
@@ -171,17 +173,17 @@ some_source (header ∷ alphabet ∷ body ∷ more) whole (first, (second, (thir
     let spelled = some_body (letters_in alphabet) body more third in
     (record { letters = letters_in alphabet; body = spelled.0 }, (refl, spelled.1))
 
--- a text spells a source or is refused
-pub source_or_refusal : (bytes : List ℕ) → ((s : SourceText) × IsSource bytes s) ⊎ ((at code : ℕ) × IsRefusal bytes at code)
-source_or_refusal bytes = by_length (cases_lt most_bytes (length bytes))
+-- a text is read as a source or refused
+pub read_or_refusal : (bytes : List ℕ) → ((s : SourceText) × IsRead bytes s) ⊎ ((at code : ℕ) × IsRefusal bytes at code)
+read_or_refusal bytes = by_length (cases_lt most_bytes (length bytes))
   where
-    by_fault : length bytes ≤ most_bytes → (o : Option (ℕ × ℕ)) → first_fault [] 1 (text_lines bytes) ≡ o → ((s : SourceText) × IsSource bytes s) ⊎ ((at code : ℕ) × IsRefusal bytes at code)
+    by_fault : length bytes ≤ most_bytes → (o : Option (ℕ × ℕ)) → first_fault [] 1 (text_lines bytes) ≡ o → ((s : SourceText) × IsRead bytes s) ⊎ ((at code : ℕ) × IsRefusal bytes at code)
     by_fault short None e =
         let spelled = well_spelled (text_lines bytes) e in
         let source = some_source (parts (text_lines bytes)) spelled.whole (parts_pass [] 1 (text_lines bytes) e) in
         inl (source.0, record { short = short; spelled = spelled; same = source.1 })
     by_fault short (Some (line, code)) e = inr (line, code, fault_refusal bytes line code short e)
 
-    by_length : (most_bytes < length bytes) ⊎ (length bytes ≤ most_bytes) → ((s : SourceText) × IsSource bytes s) ⊎ ((at code : ℕ) × IsRefusal bytes at code)
+    by_length : (most_bytes < length bytes) ⊎ (length bytes ≤ most_bytes) → ((s : SourceText) × IsRead bytes s) ⊎ ((at code : ℕ) × IsRefusal bytes at code)
     by_length (inl long) = inr (0, 11, too_long long)
     by_length (inr short) = by_fault short (first_fault [] 1 (text_lines bytes)) refl

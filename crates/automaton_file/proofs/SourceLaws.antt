@@ -1,15 +1,18 @@
 -- Sources and refusals are determined by their bytes, and by the first of them alone where they are too many.
-use Rattle.std.proofs.Common.{◌≡◌, ◌<◌, ◌≤◌, ℕ, ◌+◌, List, [], ◌∷◌, length, take, sym, ap, ◌∙◌, arith, subst}
+use Rattle.std.proofs.Common.{◌≡◌, ◌⊎◌, inl, inr, ◌<◌, ◌≤◌, ℕ, ◌+◌, List, [], ◌∷◌, length, take, sym, ap, ◌∙◌, arith, subst}
 use Rattle.std.specs.Prelude.{Option, Some, None}
 use Rattle.std.proofs.lemmas.Bool.{both_ways}
 use Rattle.std.proofs.lemmas.List.{length-take, take_all}
 use Rattle.expression_theory.specs.Scan.{classes}
 use Rattle.expression_theory.proofs.Texts.{one_tree}
 use Rattle.automaton_file.specs.LineText.{text_lines, parts, behind_first}
-use Rattle.automaton_file.specs.FileText.{Lines, letters_in, BodyText, OfAutomaton, OfExpression, SpellsBody, SpellsSource, most_bytes, SourceText, IsSource, IsRefusal, too_long, bad_line, missing_part}
-use Rattle.automaton_file.proofs.Refusals.{answer, same_pair, refusal_answer, source_answer}
+use Rattle.automaton_file.specs.FileText.{letters_in, BodyText, OfAutomaton, OfExpression, most_bytes, SourceText, IsSource, IsRefusal, too_long, bad_line, missing_part}
+use Rattle.automaton_file.specs.Parts.{Lines}
+use Rattle.automaton_file.specs.Reading.{ReadsBody, ReadsSource, IsRead}
+use Rattle.automaton_file.proofs.ReadSources.{source_is_read, read_is_source}
+use Rattle.automaton_file.proofs.Refusals.{answer, same_pair, refusal_answer, source_answer, read_or_refusal}
 
-one_body : (letters body : List ℕ) (more : Lines) (b c : BodyText) → SpellsBody letters body more b → SpellsBody letters body more c → b ≡ c
+one_body : (letters body : List ℕ) (more : Lines) (b c : BodyText) → ReadsBody letters body more b → ReadsBody letters body more c → b ≡ c
 one_body letters body more (OfAutomaton m) (OfAutomaton n) h k = ap OfAutomaton (h.1 ∙ sym k.1)
 one_body letters body more (OfAutomaton m) (OfExpression t) h k = absurd (both_ways _ h.0 k.0)
 one_body letters body more (OfExpression s) (OfAutomaton n) h k = absurd (both_ways _ k.0 h.0)
@@ -18,14 +21,14 @@ one_body letters body more (OfExpression s) (OfExpression t) h k = ap OfExpressi
 same_source : (s t : SourceText) → s.letters ≡ t.letters → s.body ≡ t.body → s ≡ t
 same_source s t h k = ap (λ (letters : List ℕ). record { letters = letters; body = s.body }) h ∙ ap (λ (body : BodyText). record { letters = t.letters; body = body }) k
 
-one_spelled : (parts : Lines) (s t : SourceText) → SpellsSource parts s → SpellsSource parts t → s ≡ t
+one_spelled : (parts : Lines) (s t : SourceText) → ReadsSource parts s → ReadsSource parts t → s ≡ t
 one_spelled [] s t h k = absurd h
 one_spelled (header ∷ []) s t h k = absurd h
 one_spelled (header ∷ alphabet ∷ []) s t h k = absurd h
 one_spelled (header ∷ alphabet ∷ body ∷ more) s t h k = same_source s t (h.0 ∙ sym k.0) (one_body (letters_in alphabet) body more s.body t.body h.1 k.1)
 
 pub one_source : (bytes : List ℕ) (s t : SourceText) → IsSource bytes s → IsSource bytes t → s ≡ t
-one_source bytes s t h k = one_spelled (parts (text_lines bytes)) s t h.same k.same
+one_source bytes s t h k = one_spelled (parts (text_lines bytes)) s t (source_is_read bytes s h).same (source_is_read bytes t k).same
 
 pub one_refusal : (bytes : List ℕ) (at code line other : ℕ) → IsRefusal bytes at code → IsRefusal bytes line other → (at ≡ line) × (code ≡ other)
 one_refusal bytes at code line other h k =
@@ -37,7 +40,15 @@ no_answer (Some y) x e h = absurd (cc)
 
 pub refusal_spells_none : (bytes : List ℕ) (s : SourceText) (at code : ℕ) → IsSource bytes s → ¬ IsRefusal bytes at code
 refusal_spells_none bytes s at code h k =
-    no_answer (answer bytes) (at, code) (source_answer bytes s h) (refusal_answer bytes at code k)
+    no_answer (answer bytes) (at, code) (source_answer bytes s (source_is_read bytes s h)) (refusal_answer bytes at code k)
+
+-- a text spells a source or is refused
+pub source_or_refusal : (bytes : List ℕ) → ((s : SourceText) × IsSource bytes s) ⊎ ((at code : ℕ) × IsRefusal bytes at code)
+source_or_refusal bytes = by (read_or_refusal bytes)
+  where
+    by : ((s : SourceText) × IsRead bytes s) ⊎ ((at code : ℕ) × IsRefusal bytes at code) → ((s : SourceText) × IsSource bytes s) ⊎ ((at code : ℕ) × IsRefusal bytes at code)
+    by (inl (s, h)) = inl (s, read_is_source bytes s h)
+    by (inr refusal) = inr refusal
 
 -- a short front is all
 pub short_front : (n : ℕ) (bytes : List ℕ) → length (take (n + 1) bytes) ≤ n → take (n + 1) bytes ≡ bytes

@@ -2,7 +2,9 @@
 use Rattle.std.proofs.Common.{◌≡◌, ℕ, zero, suc, ◌+◌, ◌<◌, List, [], ◌∷◌, ◌++◌, length, take, refl, sym, ap, ◌∙◌, arith, true, false, append_assoc, append-nil}
 use Rattle.std.specs.Prelude.{Bool, cond, Option, Some, None, slice_index_or}
 use Rattle.automaton_file.specs.LineText.{fields, is_significant, parts}
-use Rattle.automaton_file.specs.FileText.{Lines, line_fault, is_whole, IsWellSpelled}
+use Rattle.automaton_file.specs.FileText.{line_fault, is_whole}
+use Rattle.automaton_file.specs.Parts.{Lines}
+use Rattle.automaton_file.specs.Reading.{IsWellSpelled}
 use Rattle.automaton_file.specs.Reading.{fault_else, first_fault}
 
 cond_before : (b : Bool) (part : List ℕ) (more : Lines) → cond b (part ∷ more) more ≡ cond b (part ∷ []) [] ++ more

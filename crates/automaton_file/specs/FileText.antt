@@ -1,36 +1,106 @@
--- File format 1: the tests that each line must pass, the parts that must be there, and the source that a text spells.
-use Rattle.std.specs.Prelude.{◌≡◌, ◌+◌, ◌<◌, ◌≤◌, ⊤, ℕ, Bool, true, false, not, cond, ◌==◌, ◌&&◌, ◌||◌, nat_le, Option, Some, None, is_some, List, [], ◌∷◌, length, take, codes, slice_index_or}
+-- File format 1: the source that a text spells, the tests of its lines, and the refusal of a text that spells none.
+use Rattle.std.specs.Prelude.{◌≡◌, ◌+◌, ◌<◌, ◌≤◌, ⊤, ℕ, Bool, true, false, not, cond, ◌==◌, ◌&&◌, ◌||◌, nat_le, IsTrue, All, Option, Some, None, is_some, List, [], ◌∷◌, length, take, codes, slice_index_or}
 use Rattle.std.specs.List.{list_all, list_any, position, concat}
 use Rattle.std.specs.Option.{unwrap_or, option_or}
 use Rattle.std.specs.Str.{bytes_eq}
 use Rattle.language_theory.specs.Automaton.{Automaton, IsAutomaton, Accepts, is_initial, is_final, has_step}
 use Rattle.expression_theory.specs.Expression.{Tree, Means}
 use Rattle.expression_theory.specs.Positions.{IsPositions, IsWithin}
-use Rattle.expression_theory.specs.Scan.{classes, SpellsTree}
 use Rattle.regex_reader.specs.Expressions.{tree_of}
 use Rattle.syn_words.specs.Alphabet.{IsAlphabet}
-use Rattle.syn_words.specs.Nfa.{bare, with_initial, with_final, with_step}
 use Rattle.automaton_file.specs.declared.sources.Body.{Body}
 use Rattle.automaton_file.specs.declared.sources.Body.TheVariants.{Nfa, Expr}
 use Rattle.automaton_file.specs.declared.sources.Source.{Source}
 use Rattle.automaton_file.specs.declared.sources.FileFault.{FileFault}
 use Rattle.automaton_file.specs.declared.sources.FileFault.TheVariants.{Refused, Memory}
-use Rattle.automaton_file.specs.LineText.{text_lines, is_plain, fields, is_significant, parts, behind_first, value, number_below}
+use Rattle.automaton_file.specs.LineText.{text_lines, is_plain, fields, is_significant, parts, behind_first, number_below}
 use Rattle.automaton_file.specs.ExprText.{is_expression}
+use Rattle.automaton_file.specs.Parts.{Lines, Fields, IsHeader, SpellsAlphabet, SpellsCount, SpellsExpression, IsStatesLine, IsStepLine, SpellsAutomaton}
 
 -- the most bytes that an input may have
 abbrev pub most_bytes : ℕ
 most_bytes = 1048576
 
--- lines without their ends
-abbrev pub Lines : Type 0
-Lines = List (List ℕ)
+-- Sources.
 
--- the fields of a line
-abbrev pub Fields : Type 0
-Fields = List (List ℕ)
+-- the body of a source: an automaton or an expression
+pub data BodyText : Type 0 where
+  OfAutomaton : (m : Automaton) → BodyText
+  OfExpression : (t : Tree) → BodyText
 
--- The parts of a file.
+-- the alphabet's letters as bytes, and the body
+pub record SourceText : Type 0 where
+  pub letters : List ℕ
+  pub body : BodyText
+
+abbrev pub body_text : Body → BodyText
+body_text (Nfa m) = OfAutomaton m
+body_text (Expr e) = OfExpression (tree_of e)
+
+-- the value of a source of the program
+abbrev pub source_text : Source → SourceText
+source_text source = record { letters = source.alphabet; body = body_text source.body }
+
+abbrev pub body_language : BodyText → List ℕ → Type 0
+body_language (OfAutomaton m) = Accepts m
+body_language (OfExpression t) = Means t
+
+-- the language of a source
+abbrev pub language_of : SourceText → List ℕ → Type 0
+language_of source = body_language source.body
+
+-- The significant lines of a file with an automaton are the header, the alphabet, the number of states, the initial
+-- and the final states, and a line for each step.
+pub record SpellsAutomatonFile (lines : Lines) (alphabet : List ℕ) (m : Automaton) : Type 0 where
+  pub header : List ℕ
+  pub letters : List ℕ
+  pub body : List ℕ
+  pub initial : List ℕ
+  pub final : List ℕ
+  pub steps : Lines
+  pub states : ℕ
+  pub order : lines ≡ header ∷ letters ∷ body ∷ initial ∷ final ∷ steps
+  pub is_header : IsHeader header
+  pub is_alphabet : SpellsAlphabet alphabet letters
+  pub is_body : SpellsCount states body
+  pub is_initial : IsStatesLine (codes "initial") states initial
+  pub is_final : IsStatesLine (codes "final") states final
+  pub are_steps : All (IsStepLine alphabet states) steps
+  pub spelled : SpellsAutomaton alphabet states initial final steps m
+
+-- The significant lines of a file with an expression are the header, the alphabet and the expression.
+pub record SpellsExpressionFile (lines : Lines) (alphabet : List ℕ) (t : Tree) : Type 0 where
+  pub header : List ℕ
+  pub letters : List ℕ
+  pub body : List ℕ
+  pub order : lines ≡ header ∷ letters ∷ body ∷ []
+  pub is_header : IsHeader header
+  pub is_alphabet : SpellsAlphabet alphabet letters
+  pub is_body : SpellsExpression alphabet t body
+
+-- the significant lines spell the letters and the body
+abbrev pub SpellsBody : Lines → List ℕ → BodyText → Type 0
+SpellsBody lines alphabet (OfAutomaton m) = SpellsAutomatonFile lines alphabet m
+SpellsBody lines alphabet (OfExpression t) = SpellsExpressionFile lines alphabet t
+
+-- The bytes spell this source: they are not too many, no line has a byte that isn't allowed, and the significant
+-- lines are those of such a file.
+pub record IsSource (bytes : List ℕ) (source : SourceText) : Type 0 where
+  pub short : length bytes ≤ most_bytes
+  pub plain : All (λ line. IsTrue (is_plain line)) (text_lines bytes)
+  pub spelled : SpellsBody (parts (text_lines bytes)) source.letters source.body
+
+-- what holds of the body of each source, over so many letters
+abbrev pub IsSoundBody : ℕ → BodyText → Type 0
+IsSoundBody letters (OfAutomaton m) = IsAutomaton m × (m.letters ≡ letters) × (1 ≤ m.states) × (m.states ≤ 1000)
+IsSoundBody letters (OfExpression t) = IsWithin letters t
+
+-- what holds of the letters and the body of each source
+pub record IsSoundSource (source : SourceText) : Type 0 where
+  pub alphabet : IsAlphabet source.letters
+  pub body : IsSoundBody (length source.letters) source.body
+
+-- The tests of a line, and the codes of those that fail. The law `each_test_is_its_part` says what each one tests.
 
 abbrev pub is_lower_case : ℕ → Bool
 is_lower_case b = nat_le 97 b && nat_le b 122
@@ -142,93 +212,6 @@ is_whole [] = false
 is_whole (header ∷ []) = false
 is_whole (header ∷ alphabet ∷ []) = false
 is_whole (header ∷ alphabet ∷ body ∷ more) = is_expr (fields body) || nat_le 2 (length more)
-
--- no line fails a test, and the parts are there
-pub record IsWellSpelled (texts : Lines) : Type 0 where
-  pub passes : (i : ℕ) → i < length texts → fault_at texts i ≡ None
-  pub whole : is_whole (parts texts) ≡ true
-
--- The source that the parts spell.
-
--- the body of a source: an automaton or an expression
-pub data BodyText : Type 0 where
-  OfAutomaton : (m : Automaton) → BodyText
-  OfExpression : (t : Tree) → BodyText
-
--- the alphabet's letters as bytes, and the body
-pub record SourceText : Type 0 where
-  pub letters : List ℕ
-  pub body : BodyText
-
-abbrev pub body_text : Body → BodyText
-body_text (Nfa m) = OfAutomaton m
-body_text (Expr e) = OfExpression (tree_of e)
-
--- the value of a source of the program
-abbrev pub source_text : Source → SourceText
-source_text source = record { letters = source.alphabet; body = body_text source.body }
-
-abbrev pub body_language : BodyText → List ℕ → Type 0
-body_language (OfAutomaton m) = Accepts m
-body_language (OfExpression t) = Means t
-
--- the language of a source
-abbrev pub language_of : SourceText → List ℕ → Type 0
-language_of source = body_language source.body
-
--- the automaton with the listed states marked
-abbrev pub with_marks : (Automaton → ℕ → Automaton) → Automaton → Fields → Automaton
-with_marks mark m [] = m
-with_marks mark m (state ∷ more) = with_marks mark (mark m (value state)) more
-
--- the same, for the fields behind the first one
-abbrev pub with_line : (Automaton → ℕ → Automaton) → Automaton → Fields → Automaton
-with_line mark m [] = m
-with_line mark m (word ∷ states) = with_marks mark m states
-
-abbrev pub with_step_line : List ℕ → Automaton → Fields → Automaton
-with_step_line letters m [] = m
-with_step_line letters m (from ∷ []) = m
-with_step_line letters m (from ∷ letter ∷ []) = m
-with_step_line letters m (from ∷ letter ∷ to ∷ more) = with_step m (value from) (unwrap_or (letter_of letters letter) 0) (value to)
-
-abbrev pub with_step_lines : List ℕ → Automaton → Lines → Automaton
-with_step_lines letters m [] = m
-with_step_lines letters m (line ∷ more) = with_step_lines letters (with_step_line letters m (fields line)) more
-
--- the automaton that the lines behind the body line spell
-abbrev pub automaton_of : List ℕ → Automaton → Lines → Automaton
-automaton_of letters m [] = m
-automaton_of letters m (initial ∷ []) = with_line with_initial m (fields initial)
-automaton_of letters m (initial ∷ final ∷ steps) = with_step_lines letters (with_line with_final (with_line with_initial m (fields initial)) (fields final)) steps
-
--- the body line, and those behind it, spell the body
-abbrev pub SpellsBody : List ℕ → List ℕ → Lines → BodyText → Type 0
-SpellsBody letters body more (OfAutomaton m) = (is_expr (fields body) ≡ false) × (m ≡ automaton_of letters (bare (state_count (fields body)) (length letters)) more)
-SpellsBody letters body more (OfExpression t) = (is_expr (fields body) ≡ true) × SpellsTree (classes letters (behind_first body)) t
-
--- the significant lines spell the source
-abbrev pub SpellsSource : Lines → SourceText → Type 0
-SpellsSource [] source = ⊥
-SpellsSource (header ∷ []) source = ⊥
-SpellsSource (header ∷ alphabet ∷ []) source = ⊥
-SpellsSource (header ∷ alphabet ∷ body ∷ more) source = (source.letters ≡ letters_in alphabet) × SpellsBody (letters_in alphabet) body more source.body
-
--- the bytes spell this source
-pub record IsSource (bytes : List ℕ) (source : SourceText) : Type 0 where
-  pub short : length bytes ≤ most_bytes
-  pub spelled : IsWellSpelled (text_lines bytes)
-  pub same : SpellsSource (parts (text_lines bytes)) source
-
--- what holds of the body of each source, over so many letters
-abbrev pub IsSoundBody : ℕ → BodyText → Type 0
-IsSoundBody letters (OfAutomaton m) = IsAutomaton m × (m.letters ≡ letters) × (1 ≤ m.states) × (m.states ≤ 1000)
-IsSoundBody letters (OfExpression t) = IsWithin letters t
-
--- what holds of the letters and the body of each source
-pub record IsSoundSource (source : SourceText) : Type 0 where
-  pub alphabet : IsAlphabet source.letters
-  pub body : IsSoundBody (length source.letters) source.body
 
 -- Refusals.
 

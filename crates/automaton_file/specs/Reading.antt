@@ -1,10 +1,10 @@
 -- Where the reader of a file stands, and the faults that it may still find.
 use Rattle.std.specs.Prelude.{◌≡◌, ◌+◌, ◌-◌, ◌<◌, ◌≤◌, ◌++◌, ⊤, ℕ, Bool, true, false, not, cond, ◌&&◌, nat_le, Option, Some, None, List, [], ◌∷◌, length, drop, slice_range, codes}
 use Rattle.std.specs.List.{list_all}
-use Rattle.std.specs.Option.{option_or}
+use Rattle.std.specs.Option.{unwrap_or, option_or}
 use Rattle.language_theory.specs.Automaton.{Automaton}
 use Rattle.syn_words.specs.Alphabet.{IsAlphabet}
-use Rattle.syn_words.specs.Nfa.{with_initial, with_final}
+use Rattle.syn_words.specs.Nfa.{bare, with_initial, with_final, with_step}
 use Rattle.automaton_file.specs.declared.lines.LineGot.{LineGot}
 use Rattle.automaton_file.specs.declared.lines.LineGot.TheVariants.{Line, BadByte, End}
 use Rattle.automaton_file.specs.declared.parts.BodyLine.{BodyLine}
@@ -21,13 +21,66 @@ use Rattle.automaton_file.specs.declared.reading.Head.{Head}
 use Rattle.automaton_file.specs.declared.sources.Refusal.{Refusal}
 use Rattle.automaton_file.specs.declared.sources.FileFault.{FileFault}
 use Rattle.automaton_file.specs.declared.sources.FileFault.TheVariants as file
-use Rattle.automaton_file.specs.LineText.{text_lines, line_start, is_plain, fields, is_significant, parts, behind_first}
+use Rattle.automaton_file.specs.LineText.{text_lines, line_start, is_plain, fields, is_significant, parts, behind_first, value}
 use Rattle.expression_theory.specs.Scan.{classes, SpellsTree}
 use Rattle.expression_theory.specs.Positions.{IsWithin}
 use Rattle.regex_reader.specs.Expressions.{tree_of}
 use Rattle.regex_reader.specs.declared.fault.ExprFault.{ExprFault}
 use Rattle.regex_reader.specs.declared.fault.ExprFault.TheVariants as expr
-use Rattle.automaton_file.specs.FileText.{Lines, part_fault, automaton_fault, step_fault, unless, is_whole, is_expr, state_count, letters_in, header_fault, alphabet_fault, body_fault, marks_fault, with_line}
+use Rattle.automaton_file.specs.Parts.{Lines, Fields}
+use Rattle.automaton_file.specs.FileText.{most_bytes, BodyText, OfAutomaton, OfExpression, SourceText, part_fault, fault_at, automaton_fault, step_fault, unless, is_whole, is_expr, state_count, letters_in, letter_of, header_fault, alphabet_fault, body_fault, marks_fault}
+
+-- no line fails a test, and no part must still come
+pub record IsWellSpelled (texts : Lines) : Type 0 where
+  pub passes : (i : ℕ) → i < length texts → fault_at texts i ≡ None
+  pub whole : is_whole (parts texts) ≡ true
+
+-- The source as it is read: the same as the source that the text spells, by the laws of proofs/ReadSources.antt.
+
+-- the automaton with the listed states marked
+abbrev pub with_marks : (Automaton → ℕ → Automaton) → Automaton → Fields → Automaton
+with_marks mark m [] = m
+with_marks mark m (state ∷ more) = with_marks mark (mark m (value state)) more
+
+-- the same, for the fields behind the first one
+abbrev pub with_line : (Automaton → ℕ → Automaton) → Automaton → Fields → Automaton
+with_line mark m [] = m
+with_line mark m (word ∷ states) = with_marks mark m states
+
+abbrev pub with_step_line : List ℕ → Automaton → Fields → Automaton
+with_step_line letters m [] = m
+with_step_line letters m (from ∷ []) = m
+with_step_line letters m (from ∷ letter ∷ []) = m
+with_step_line letters m (from ∷ letter ∷ to ∷ more) = with_step m (value from) (unwrap_or (letter_of letters letter) 0) (value to)
+
+abbrev pub with_step_lines : List ℕ → Automaton → Lines → Automaton
+with_step_lines letters m [] = m
+with_step_lines letters m (line ∷ more) = with_step_lines letters (with_step_line letters m (fields line)) more
+
+-- the automaton that the lines behind the body line spell
+abbrev pub automaton_of : List ℕ → Automaton → Lines → Automaton
+automaton_of letters m [] = m
+automaton_of letters m (initial ∷ []) = with_line with_initial m (fields initial)
+automaton_of letters m (initial ∷ final ∷ steps) = with_step_lines letters (with_line with_final (with_line with_initial m (fields initial)) (fields final)) steps
+
+-- the body line, and those behind it, spell the body
+abbrev pub ReadsBody : List ℕ → List ℕ → Lines → BodyText → Type 0
+ReadsBody letters body more (OfAutomaton m) = (is_expr (fields body) ≡ false) × (m ≡ automaton_of letters (bare (state_count (fields body)) (length letters)) more)
+ReadsBody letters body more (OfExpression t) = (is_expr (fields body) ≡ true) × SpellsTree (classes letters (behind_first body)) t
+
+-- the significant lines spell the source
+abbrev pub ReadsSource : Lines → SourceText → Type 0
+ReadsSource [] source = ⊥
+ReadsSource (header ∷ []) source = ⊥
+ReadsSource (header ∷ alphabet ∷ []) source = ⊥
+ReadsSource (header ∷ alphabet ∷ body ∷ more) source = (source.letters ≡ letters_in alphabet) × ReadsBody (letters_in alphabet) body more source.body
+
+
+-- the bytes are read as this source
+pub record IsRead (bytes : List ℕ) (source : SourceText) : Type 0 where
+  pub short : length bytes ≤ most_bytes
+  pub spelled : IsWellSpelled (text_lines bytes)
+  pub same : ReadsSource (parts (text_lines bytes)) source
 
 -- blank or a comment, with allowed bytes alone
 abbrev pub is_skipped : List ℕ → Bool

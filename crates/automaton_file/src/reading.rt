@@ -4,7 +4,8 @@ ghost use Rattle.std.specs.Prelude.{◌≡◌, ◌≤◌, None, Some, true, fals
 ghost use Rattle.syn_words.specs.Alphabet.{IsAlphabet};
 ghost use Rattle.syn_words.specs.Nfa.{bare};
 ghost use Rattle.automaton_file.specs.LineText.{text_lines, fields, parts};
-ghost use Rattle.automaton_file.specs.FileText.{most_bytes, header_fault, alphabet_fault, body_fault, marks_fault, step_fault, with_step_line, automaton_of, with_step_lines, source_text, body_text, SpellsSource, CanBuild, IsSource, IsSoundSource, IsFileRefusal};
+ghost use Rattle.automaton_file.specs.FileText.{most_bytes, header_fault, alphabet_fault, body_fault, marks_fault, step_fault, source_text, body_text, CanBuild, IsSource, IsSoundSource, IsFileRefusal};
+ghost use Rattle.automaton_file.specs.Reading.{with_step_line, automaton_of, with_step_lines, ReadsSource};
 ghost use Rattle.automaton_file.specs.Reading.{IsPlace, lines_from, IsPart, IsAhead, IsBadPart, IsNoPart, IsRefusedPart, IsFaultyPart, IsHeaderTaken, IsAlphabetTaken, IsBodyTaken, IsMarksTaken, mark_word, IsFileFault, IsFaultAt, IsHead, first_fault, automaton_first_fault, steps_first_fault, nothing_first_fault};
 
 use crate::lines::{LineGot, next_line};
@@ -279,7 +280,7 @@ fn read_nothing(bytes: &[u8], place: Place) -> Result<(), Refusal>
 fn read_source(alloc: Global, bytes: &[u8]) -> Result<Source, FileFault>
     requires { length bytes.now ≤ most_bytes }
     ensures spelled { OnOk result (first_fault [] 1 (text_lines bytes.now) ≡ None) }
-    ensures source { IfOk result (λ s. SpellsSource (parts (text_lines bytes.now)) (source_text s)) }
+    ensures source { IfOk result (λ s. ReadsSource (parts (text_lines bytes.now)) (source_text s)) }
     ensures err { IfErr result (IsFileFault (first_fault [] 1 (text_lines bytes.now))) }
     ensures sound { IfOk result (λ s. IsSoundSource (source_text s)) }
     ensures buildable { IfOk result (λ s. CanBuild (length s.alphabet) (body_text s.body)) }

@@ -1,6 +1,7 @@
 use Rattle.std.proofs.lemmas.Result.{err_from_is_err_and}
 use Rattle.automaton_file.specs.FileText.{too_long}
 use Rattle.automaton_file.proofs.WellSpelled.{well_spelled}
+use Rattle.automaton_file.proofs.ReadSources.{read_is_source}
 use Rattle.automaton_file.proofs.Refusals.{read_refusal}
 use Rattle.automaton_file.proofs.reading.read_file.Goals as goal
 
@@ -13,8 +14,9 @@ returns-in_err-source-clause-refused c =
     rw (p.1, p.2) (read_refusal _ _ c.if-bytes-gt-MOST_BYTES.false c.in_err-source.ensures.err)
 
 pub returns-clause-ok : goal.returns-clause-ok
-returns-clause-ok c = record {
-  short = c.if-bytes-gt-MOST_BYTES.false;
-  spelled = well_spelled _ c.in_ok-source.ensures.spelled;
-  same = c.in_ok-source.ensures.source;
-}
+returns-clause-ok c =
+    read_is_source _ _ (record {
+      short = c.if-bytes-gt-MOST_BYTES.false;
+      spelled = well_spelled _ c.in_ok-source.ensures.spelled;
+      same = c.in_ok-source.ensures.source;
+    })

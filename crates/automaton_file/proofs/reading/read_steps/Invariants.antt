@@ -1,6 +1,6 @@
 use Rattle.std.proofs.Common.{◌≡◌, ◌-◌, length}
 use Rattle.automaton_file.specs.LineText.{parts}
-use Rattle.automaton_file.specs.FileText.{with_step_lines}
+use Rattle.automaton_file.specs.Reading.{with_step_lines}
 use Rattle.automaton_file.specs.Reading.{IsPlace, lines_from, steps_first_fault}
 use Rattle.automaton_file.proofs.reading.read_steps.Given as goal
 
