@@ -5,7 +5,8 @@ use Rattle.automaton_file.specs.FileText.{SourceText, OfAutomaton}
 
 -- two states, a step from 0 to 1 by a, and two steps from 1 by b, the first of them written twice
 abbrev pub worked_text : List ℕ
-worked_text = codes "synmon 1\n# words a, ab, abb, abab ..\nalphabet a b\nnfa 2\ninitial 0\nfinal 1\n0 a 1\n1 b 0\r\n1 b 1\n1 b 0"
+worked_text =
+    codes "synmon 1\n# words a, ab, abb, abab ..\nalphabet a b\nnfa 2\ninitial 0\nfinal 1\n0 a 1\n1 b 0\r\n1 b 1\n1 b 0"
 
 -- state 0 is initial and 1 is final; a has the number 0, b the number 1
 abbrev pub worked_automaton : Automaton

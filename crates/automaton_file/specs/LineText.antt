@@ -3,7 +3,8 @@ use Rattle.std.specs.Prelude.{ℕ, zero, suc, Bool, false, not, cond, ◌+◌, �
 use Rattle.std.specs.List.{list_all, filter, slice_split, position_or_len}
 use Rattle.std.specs.Str.Lines.{lines}
 
--- The lines without their ends, as Rust's `str::lines` cuts them: after each LF, and a CR directly before an LF belongs to the line's end.
+-- The lines without their ends, as Rust's `str::lines` cuts them: after each LF, and a CR
+-- directly before an LF belongs to the line's end.
 unfoldable pub text_lines : List ℕ → List (List ℕ)
 text_lines bytes = lines bytes
 
@@ -11,10 +12,12 @@ text_lines bytes = lines bytes
 abbrev pub line_len : List ℕ → ℕ
 line_len bytes = min (position_or_len (λ b. b == 10) bytes + 1) (length bytes)
 
--- The place where the line behind so many others begins, counted from a place on where a line begins.
+-- The place where the line behind so many others begins, counted from a place on where a line
+-- begins.
 abbrev pub line_start : List ℕ → ℕ → ℕ → ℕ
 line_start bytes place zero = place
-line_start bytes place (suc count) = let before = line_start bytes place count in before + line_len (drop before bytes)
+line_start bytes place (suc count) =
+    let before = line_start bytes place count in before + line_len (drop before bytes)
 
 -- printable ASCII or a tab
 abbrev pub is_allowed : ℕ → Bool
@@ -67,4 +70,5 @@ value field = value_behind 0 field
 
 -- the number that a field spells, if it spells one below the limit
 unfoldable pub number_below : ℕ → List ℕ → Option ℕ
-number_below limit field = cond (is_number field && nat_lt (value field) limit) (Some (value field)) None
+number_below limit field =
+    cond (is_number field && nat_lt (value field) limit) (Some (value field)) None

@@ -1,5 +1,5 @@
 -- File format 1: what each part of a file must be, and what it says.
-use Rattle.std.specs.Prelude.{◌≡◌, ◌+◌, ◌<◌, ◌≤◌, ◌↔◌, ℕ, IsTrue, List, [], ◌∷◌, length, drop, codes, slice_index, All, if◌then◌else◌, ◌++◌}
+use Rattle.std.specs.Prelude.{◌≡◌, ◌<◌, ◌≤◌, ◌↔◌, ℕ, IsTrue, List, [], ◌∷◌, length, drop, codes, slice_index, All, if◌then◌else◌, ◌++◌}
 use Rattle.std.specs.Fmt.{decimal}
 use Rattle.std.specs.List.{list_any, concat, Any, AllZip}
 use Rattle.language_theory.specs.Automaton.{Automaton, IsAutomaton, is_initial, is_final, is_step, has_step}
@@ -36,7 +36,8 @@ IsLetter alphabet field = (a : ℕ) × SpellsLetter alphabet a field
 abbrev pub IsHeader : List ℕ → Type 0
 IsHeader line = fields line ≡ codes "synmon" ∷ codes "1" ∷ []
 
--- An alphabet line has the field `alphabet` and behind it the letters, however they are cut into fields.
+-- An alphabet line has the field `alphabet` and behind it the letters, however they are cut into
+-- fields.
 pub record SpellsAlphabet (alphabet line : List ℕ) : Type 0 where
   pub pieces : Fields
   pub stands : fields line ≡ codes "alphabet" ∷ pieces
@@ -56,7 +57,8 @@ pub record SpellsExpression (alphabet : List ℕ) (t : Tree) (line : List ℕ) :
   pub accepted : IsAccepted (classes alphabet (behind_first line))
   pub spelled : SpellsTree (classes alphabet (behind_first line)) t
 
--- A line of states has its word, `initial` or `final`, and behind it the numbers of states, none or more.
+-- A line of states has its word, `initial` or `final`, and behind it the numbers of states, none
+-- or more.
 pub record IsStatesLine (word : List ℕ) (states : ℕ) (line : List ℕ) : Type 0 where
   pub numbers : Fields
   pub stands : fields line ≡ word ∷ numbers
@@ -84,19 +86,22 @@ each_once listed (s ∷ more) =
     each_once (if list_any (is_step s.0 s.1 s.2) listed then listed else listed ++ s ∷ []) more
 
 -- the steps are listed in the order of their lines, each once
-pub record AreListed (alphabet : List ℕ) (states : ℕ) (lines : Lines) (steps : List (ℕ × ℕ × ℕ)) : Type 0 where
+pub record AreListed (alphabet : List ℕ) (states : ℕ) (lines : Lines)
+    (steps : List (ℕ × ℕ × ℕ)) : Type 0 where
   pub spelled : List (ℕ × ℕ × ℕ)
   pub each : AllZip (λ line s. SpellsStep alphabet states s.0 s.1 s.2 line) lines spelled
   pub once : steps ≡ each_once [] spelled
 
--- The automaton that a line `initial`, a line `final` and the step lines spell: a state is initial exactly where a
--- field of the line `initial` spells its number, final likewise, and there is a step exactly where some step line
--- spells it.
-pub record SpellsAutomaton (alphabet : List ℕ) (count : ℕ) (initial_line final_line : List ℕ) (step_lines : Lines) (m : Automaton) : Type 0 where
+-- The automaton that a line `initial`, a line `final` and the step lines spell: a state is
+-- initial exactly where a field of the line `initial` spells its number, final likewise, and
+-- there is a step exactly where some step line spells it.
+pub record SpellsAutomaton (alphabet : List ℕ) (count : ℕ) (initial_line final_line : List ℕ)
+    (step_lines : Lines) (m : Automaton) : Type 0 where
   pub automaton : IsAutomaton m
   pub states : m.states ≡ count
   pub letters : m.letters ≡ length alphabet
   pub initial : (p : ℕ) → p < count → IsTrue (is_initial m p) ↔ Names initial_line p
   pub finals : (p : ℕ) → p < count → IsTrue (is_final m p) ↔ Names final_line p
-  pub steps : (p a q : ℕ) → IsTrue (has_step m p a q) ↔ Any (SpellsStep alphabet count p a q) step_lines
+  pub steps : (p a q : ℕ) → IsTrue (has_step m p a q)
+      ↔ Any (SpellsStep alphabet count p a q) step_lines
   pub listed : AreListed alphabet count step_lines m.steps

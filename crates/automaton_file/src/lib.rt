@@ -2,6 +2,8 @@
 #![tactic(auto)]
 
 mod automata;
+mod cursor;
+mod faults;
 mod fields;
 mod laws;
 mod lines;
@@ -18,4 +20,4 @@ pub use laws::{
 };
 pub use lines::{LineGot, next_line};
 pub use reading::read_file;
-pub use sources::{Body, FileFault, Refusal, Source};
+pub use sources::{Body, FileFault, Refusal, Source, Wrong};

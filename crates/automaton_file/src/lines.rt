@@ -118,7 +118,8 @@ fn text_len(line: &[u8]) -> usize
 /// Cuts off the first line of a text that isn't empty.
 fn first_line(text: &[u8]) -> Cut
     requires { 0 < length text.now }
-    ensures first { text_lines text.now ≡ take result.text text.now ∷ text_lines (drop result.whole text.now) }
+    ensures first { text_lines text.now ≡ take result.text text.now ∷ text_lines
+        (drop result.whole text.now) }
     ensures within { result.whole ≤ length text.now }
     ensures inside { result.text ≤ result.whole }
     ensures some { 0 < result.whole }
