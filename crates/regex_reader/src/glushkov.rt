@@ -22,7 +22,8 @@ use syn_words::{Memory, Nfa};
 
 /// Appends the letter of a node, if it is one.
 fn push_letter(node: Node, letters: &mut Vec<u8>) -> Result<(), Memory>
-    ensures { OnOk result (letters.new.items ≡ letters.old.items ++ notation.letters (node_of node ∷ [])) }
+    ensures { OnOk result
+        (letters.new.items ≡ letters.old.items ++ notation.letters (node_of node ∷ [])) }
 {
     if let Node::Letter(letter) = node {
         letters.push(letter)?;
@@ -90,7 +91,8 @@ fn add_row(nfa: &mut Nfa, marks: &Marks, letters: &[u8], state: u32) -> Result<(
     requires letters { All (λ a. a < nfa.old.letters) letters.now }
     requires width { marks.now.width ≡ length letters.now + 1 }
     requires narrow { marks.now.width ≤ 4001 }
-    ensures { OnOk result (HasGrown nfa.old nfa.new (IsRowStep marks.now letters.now state (length letters.now))) }
+    ensures { OnOk result
+        (HasGrown nfa.old nfa.new (IsRowStep marks.now letters.now state (length letters.now))) }
 {
     for (place, letter) in letters.iter().enumerate() {
         let sign = place as u32 + 1;
@@ -105,7 +107,8 @@ fn add_rows(nfa: &mut Nfa, marks: &Marks, letters: &[u8]) -> Result<(), Memory>
     requires letters { All (λ a. a < nfa.old.letters) letters.now }
     requires width { marks.now.width ≡ length letters.now + 1 }
     requires narrow { marks.now.width ≤ 4001 }
-    ensures { OnOk result (HasGrown nfa.old nfa.new (IsTableStep marks.now letters.now marks.now.width)) }
+    ensures { OnOk result
+        (HasGrown nfa.old nfa.new (IsTableStep marks.now letters.now marks.now.width)) }
 {
     let states = letters.len() as u32 + 1;
     for state in 0..states {
@@ -128,7 +131,8 @@ fn build(
     requires narrow { marks.now.width ≤ 4001 }
     requires last { All (λ p. p < length signs.now + 1) part.now.last.items }
     requires letters { All (λ a. a < letters) signs.now }
-    ensures { IfOk result (IsBuilt part.now.has_empty part.now.last.items marks.now signs.now letters) }
+    ensures { IfOk result
+        (IsBuilt part.now.has_empty part.now.last.items marks.now signs.now letters) }
 {
     let mut nfa = Nfa::new(alloc, signs.len() as u32 + 1, letters)?;
     nfa.set_initial(0);

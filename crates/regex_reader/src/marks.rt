@@ -13,8 +13,10 @@ fn clear(places: &mut [bool], from: usize, to: usize)
     requires order { from ≤ to }
     requires to { to ≤ length places.old }
     ensures cleared { (k : ℕ) → from ≤ k → k < to → slice_index_or places.new k false ≡ false }
-    ensures before { (k : ℕ) → k < from → slice_index_or places.new k false ≡ slice_index_or places.old k false }
-    ensures behind { (k : ℕ) → to ≤ k → slice_index_or places.new k false ≡ slice_index_or places.old k false }
+    ensures before { (k : ℕ) → k < from
+        → slice_index_or places.new k false ≡ slice_index_or places.old k false }
+    ensures behind { (k : ℕ) → to ≤ k
+        → slice_index_or places.new k false ≡ slice_index_or places.old k false }
 {
     for place in from..to {
         places[place] = false;
