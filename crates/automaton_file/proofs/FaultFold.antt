@@ -6,10 +6,10 @@ use Rattle.std.specs.List.{list_all}
 use Rattle.std.proofs.lemmas.Bool.{and_parts, not-true, le-leb}
 use Rattle.automaton_file.specs.declared.sources.Wrong.{Wrong}
 use Rattle.automaton_file.specs.declared.sources.Wrong.TheVariants as wrong
-use Rattle.automaton_file.specs.LineText.{is_plain, fields, is_significant, parts}
+use Rattle.automaton_file.specs.LineText.{is_plain, fields, is_significant, parts, is_skipped, IsSkip}
 use Rattle.automaton_file.specs.FileText.{unless, part_fault, is_whole, is_expr, letters_in, state_count, automaton_fault, step_fault}
 use Rattle.automaton_file.specs.Parts.{Lines}
-use Rattle.automaton_file.specs.Reading.{is_skipped, IsSkip, fault_else, faults_by, first_fault, automaton_first_fault, steps_first_fault, nothing_first_fault}
+use Rattle.automaton_file.specs.Reading.{fault_else, faults_by, first_fault, automaton_first_fault, steps_first_fault, nothing_first_fault}
 
 -- the test of a line, whole
 abbrev pub tested : (Lines → List ℕ → Option Wrong) → Lines → List ℕ → Option Wrong

@@ -14,8 +14,7 @@ use Rattle.automaton_file.specs.declared.parts.Mark.TheVariants.{Initial, Final}
 use Rattle.automaton_file.specs.LineText.{fields, value, number_below}
 use Rattle.automaton_file.specs.FileText.{unless, begins_with, alphabet_fault, is_alphabet, letters_of, count_of, state_count, is_expr, body_fault, is_state, letter_of, step_fault}
 use Rattle.automaton_file.specs.Parts.{Fields}
-use Rattle.automaton_file.specs.Reading.{with_marks, with_step_line}
-use Rattle.automaton_file.specs.Reading.{mark_state}
+use Rattle.automaton_file.specs.Reading.{with_marks, with_step_line, mark_state}
 use Rattle.automaton_file.proofs.Digits.{number_below_gives, number_below_or_zero}
 use Rattle.automaton_file.proofs.Letters.{alphabet_test, no_alphabet_test}
 

@@ -106,9 +106,6 @@ alphabet_part line =
 
 -- the body line
 
-not_expr : (line more : Fields) → line ≡ codes "nfa" ∷ more → is_expr line ≡ false
-not_expr line more e = ap is_expr e
-
 count_spelled : (line : Fields) (n : ℕ) → count_of line ≡ n → n ≢ 0 → (line ≡ decimal n ∷ [])
     × (n ≤ 1000)
 count_spelled [] n e h = absurd (h (sym e))

@@ -6,8 +6,7 @@ use Rattle.automaton_file.specs.declared.sources.Wrong.TheVariants as wrong
 use Rattle.automaton_file.specs.LineText.{fields, is_significant, parts}
 use Rattle.automaton_file.specs.FileText.{line_fault, is_whole}
 use Rattle.automaton_file.specs.Parts.{Lines}
-use Rattle.automaton_file.specs.Reading.{IsWellSpelled}
-use Rattle.automaton_file.specs.Reading.{fault_else, first_fault}
+use Rattle.automaton_file.specs.Reading.{IsWellSpelled, fault_else, first_fault}
 
 cond_before : (b : Bool) (part : List ℕ) (more : Lines) → cond b (part ∷ more) more ≡ cond b (part ∷ []) [] ++ more
 cond_before true part more = refl

@@ -18,7 +18,7 @@ use Rattle.automaton_file.specs.declared.sources.FileFault.{FileFault}
 use Rattle.automaton_file.specs.declared.sources.FileFault.TheVariants.{Refused, Memory}
 use Rattle.automaton_file.specs.LineText.{text_lines, is_plain, fields, is_significant, parts, behind_first, number_below}
 use Rattle.automaton_file.specs.ExprText.{is_expression}
-use Rattle.automaton_file.specs.Parts.{Lines, Fields, IsHeader, SpellsAlphabet, SpellsCount, SpellsExpression, IsStatesLine, IsStepLine, SpellsAutomaton}
+use Rattle.automaton_file.specs.Parts.{most_states, Lines, Fields, IsHeader, SpellsAlphabet, SpellsCount, SpellsExpression, IsStatesLine, IsStepLine, SpellsAutomaton}
 
 -- the most bytes that an input may have
 abbrev pub most_bytes : ℕ
@@ -97,7 +97,7 @@ pub record IsSource (bytes : List ℕ) (source : SourceText) : Type 0 where
 -- what holds of the body of each source, over so many letters
 abbrev pub IsSoundBody : ℕ → BodyText → Type 0
 IsSoundBody letters (OfAutomaton m) =
-    IsAutomaton m × (m.letters ≡ letters) × (1 ≤ m.states) × (m.states ≤ 1000)
+    IsAutomaton m × (m.letters ≡ letters) × (1 ≤ m.states) × (m.states ≤ most_states)
 IsSoundBody letters (OfExpression t) = IsWithin letters t
 
 -- what holds of the letters and the body of each source

@@ -8,6 +8,10 @@ use Rattle.expression_theory.specs.Scan.{classes, IsAccepted, SpellsTree}
 use Rattle.syn_words.specs.Alphabet.{IsAlphabet}
 use Rattle.automaton_file.specs.LineText.{fields, behind_first}
 
+-- the most states that the automaton of a file may have
+abbrev pub most_states : ℕ
+most_states = 1000
+
 -- lines without their ends
 abbrev pub Lines : Type 0
 Lines = List (List ℕ)
@@ -48,7 +52,7 @@ pub record SpellsAlphabet (alphabet line : List ℕ) : Type 0 where
 pub record SpellsCount (states : ℕ) (line : List ℕ) : Type 0 where
   pub stands : fields line ≡ codes "nfa" ∷ decimal states ∷ []
   pub some : 1 ≤ states
-  pub few : states ≤ 1000
+  pub few : states ≤ most_states
 
 -- The body line of an expression has the field `expr` and behind it the text of the expression.
 pub record SpellsExpression (alphabet : List ℕ) (t : Tree) (line : List ℕ) : Type 0 where

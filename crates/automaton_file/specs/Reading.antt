@@ -7,8 +7,6 @@ use Rattle.syn_words.specs.Alphabet.{IsAlphabet}
 use Rattle.syn_words.specs.Nfa.{bare, with_initial, with_final, with_step}
 use Rattle.automaton_file.specs.declared.sources.Wrong.{Wrong}
 use Rattle.automaton_file.specs.declared.sources.Wrong.TheVariants as wrong
-use Rattle.automaton_file.specs.declared.lines.LineGot.{LineGot}
-use Rattle.automaton_file.specs.declared.lines.LineGot.TheVariants.{Line, BadByte, End}
 use Rattle.automaton_file.specs.declared.parts.BodyLine.{BodyLine}
 use Rattle.automaton_file.specs.declared.parts.BodyLine.TheVariants.{Expr, Nfa}
 use Rattle.automaton_file.specs.declared.parts.Mark.{Mark}
@@ -23,13 +21,13 @@ use Rattle.automaton_file.specs.declared.reading.Head.{Head}
 use Rattle.automaton_file.specs.declared.faults.BadLine.{BadLine}
 use Rattle.automaton_file.specs.declared.faults.ReadFault.{ReadFault}
 use Rattle.automaton_file.specs.declared.faults.ReadFault.TheVariants as read
-use Rattle.automaton_file.specs.LineText.{text_lines, line_start, is_plain, fields, is_significant, parts, behind_first, value}
+use Rattle.automaton_file.specs.LineText.{text_lines, is_plain, fields, is_significant, parts, behind_first, value, IsSkip, IsEndAhead}
 use Rattle.expression_theory.specs.Scan.{classes, SpellsTree}
 use Rattle.expression_theory.specs.Positions.{IsWithin}
 use Rattle.regex_reader.specs.Expressions.{tree_of}
 use Rattle.regex_reader.specs.declared.fault.ExprFault.{ExprFault}
 use Rattle.regex_reader.specs.declared.fault.ExprFault.TheVariants as expr
-use Rattle.automaton_file.specs.Parts.{Lines, Fields}
+use Rattle.automaton_file.specs.Parts.{most_states, Lines, Fields}
 use Rattle.automaton_file.specs.FileText.{most_bytes, BodyText, OfAutomaton, OfExpression, SourceText, part_fault, fault_at, automaton_fault, step_fault, unless, is_whole, is_expr, state_count, letters_in, letter_of, header_fault, alphabet_fault, body_fault, marks_fault}
 
 -- no line fails a test, and no part must still come
@@ -92,18 +90,6 @@ pub record IsRead (bytes : List ℕ) (source : SourceText) : Type 0 where
   pub spelled : IsWellSpelled (text_lines bytes)
   pub same : ReadsSource (parts (text_lines bytes)) source
 
--- blank or a comment, with allowed bytes alone
-abbrev pub is_skipped : List ℕ → Bool
-is_skipped text = is_plain text && not (is_significant (fields text))
-
--- from the lines `texts`, the first of which has this number, some are skipped to the lines `rest`
-pub record IsSkip (texts : List (List ℕ)) (number : ℕ) (rest : List (List ℕ))
-    (next : ℕ) : Type 0 where
-  pub skipped : List (List ℕ)
-  pub split : texts ≡ skipped ++ rest
-  pub counted : next ≡ number + length skipped
-  pub each : list_all is_skipped skipped ≡ true
-
 -- the lines from a cursor on
 abbrev pub lines_from : Cursor → List (List ℕ)
 lines_from cursor = text_lines (drop cursor.at cursor.bytes.now)
@@ -111,43 +97,6 @@ lines_from cursor = text_lines (drop cursor.at cursor.bytes.now)
 -- how many bytes stand from a cursor on
 abbrev pub left : Cursor → ℕ
 left cursor = length cursor.bytes.now - cursor.at
-
--- a line at `from` to `to`, before the text from `next` on, is the first one from `place` on
--- that is significant or has a byte that isn't allowed, and it has none
-pub record IsLineAhead (bytes : List ℕ) (place number at from to next : ℕ) : Type 0 where
-  pub skip : IsSkip (text_lines (drop place bytes)) number
-      (slice_range bytes from to ∷ text_lines (drop next bytes)) at
-  pub plain : is_plain (slice_range bytes from to) ≡ true
-  pub significant : is_significant (fields (slice_range bytes from to)) ≡ true
-  pub begins : from ≡ line_start bytes place (at - number)
-  pub ends : next ≡ line_start bytes place (at + 1 - number)
-  pub order : from ≤ to
-  pub inside : to ≤ next
-  pub onward : place < next
-  pub within : next ≤ length bytes
-  pub counted : at ≤ from + 1
-  pub rises : at < next + 1
-
--- the line with number `at` is the first one from `place` on that is significant or has a byte
--- that isn't allowed, and it has one
-pub record IsBadAhead (bytes : List ℕ) (place number at : ℕ) : Type 0 where
-  pub text : List ℕ
-  pub rest : List (List ℕ)
-  pub skip : IsSkip (text_lines (drop place bytes)) number (text ∷ rest) at
-  pub bad : is_plain text ≡ false
-
--- no line from `place` on is significant or has a byte that isn't allowed, and there are `count`
--- lines in all
-pub record IsEndAhead (bytes : List ℕ) (place number count : ℕ) : Type 0 where
-  pub skip : IsSkip (text_lines (drop place bytes)) number [] (count + 1)
-  pub few : count ≤ length bytes
-
--- what stands from the place on where the line with this number begins
-abbrev pub IsNextLine : List ℕ → ℕ → ℕ → LineGot → Type 0
-IsNextLine bytes place number (Line at from to next) =
-    IsLineAhead bytes place number at from to next
-IsNextLine bytes place number (BadByte at) = IsBadAhead bytes place number at
-IsNextLine bytes place number (End count) = IsEndAhead bytes place number count
 
 -- the first fault, with the number of its line, where one line may have a fault
 abbrev pub fault_else : Option Wrong → ℕ → Option (ℕ × Wrong) → Option (ℕ × Wrong)
@@ -203,7 +152,7 @@ IsBodyLine letters line (Expr e) =
     × IsWithin (length letters) (tree_of e)
 IsBodyLine letters line (Nfa count) =
     (is_expr (fields line) ≡ false) × (state_count (fields line) ≡ count) × (1 ≤ count)
-    × (count ≤ 1000)
+    × (count ≤ most_states)
 
 abbrev pub mark_word : Mark → List ℕ
 mark_word Initial = codes "initial"

@@ -7,7 +7,7 @@ ghost use Rattle.syn_words.specs.Alphabet.{IsAlphabet};
 ghost use Rattle.automaton_file.specs.LineText.{fields};
 ghost use Rattle.automaton_file.specs.ExprText.{is_expression};
 ghost use Rattle.automaton_file.specs.Examples.{worked_text, worked_source, refused_text};
-ghost use Rattle.automaton_file.specs.Parts.{Fields, IsState, IsLetter, IsHeader, SpellsAlphabet, SpellsCount, SpellsExpression, IsStatesLine, IsStepLine};
+ghost use Rattle.automaton_file.specs.Parts.{most_states, Fields, IsState, IsLetter, IsHeader, SpellsAlphabet, SpellsCount, SpellsExpression, IsStatesLine, IsStepLine};
 ghost use Rattle.automaton_file.specs.FileText.{most_bytes, is_alphabet, begins_with, is_state, letter_of, header_fault, alphabet_fault, body_fault, marks_fault, step_fault, SourceText, BodyText, body_language, IsSource, IsRefusal, IsSameAutomaton, IsBodyAutomaton};
 ghost use Rattle.language_theory.specs.Automaton.{Automaton, Accepts, SameSubset};
 
@@ -18,9 +18,10 @@ pub fn each_line_is_its_part()
         ↔ ((alphabet : List ℕ) × SpellsAlphabet alphabet line) }
     ensures body { (alphabet line : List ℕ) → body_fault alphabet line ≡ None
         ↔ (((states : ℕ) × SpellsCount states line) ⊎ ((t : Tree) × SpellsExpression alphabet t line)) }
-    ensures states { (word line : List ℕ) (states : ℕ) → states ≤ 1000
+    ensures states { (word line : List ℕ) (states : ℕ) → states ≤ most_states
         → marks_fault word states (fields line) ≡ None ↔ IsStatesLine word states line }
-    ensures step { (alphabet line : List ℕ) (states : ℕ) → IsAlphabet alphabet → states ≤ 1000
+    ensures step { (alphabet line : List ℕ) (states : ℕ) → IsAlphabet alphabet
+        → states ≤ most_states
         → step_fault alphabet states (fields line) ≡ None ↔ IsStepLine alphabet states line }
 {}
 
@@ -31,7 +32,8 @@ pub fn each_test_says_what_must_stand()
     ensures alphabet { (text : List ℕ) → IsTrue (is_alphabet text) ↔ IsAlphabet text }
     ensures expression { (alphabet text : List ℕ) → IsTrue (is_expression alphabet text)
         ↔ IsAccepted (classes alphabet text) }
-    ensures state { (states : ℕ) (field : List ℕ) → states ≤ 1000 → IsTrue (is_state states field)
+    ensures state { (states : ℕ) (field : List ℕ) → states ≤ most_states
+        → IsTrue (is_state states field)
         ↔ IsState states field }
     ensures letter { (alphabet field : List ℕ) → IsAlphabet alphabet
         → IsTrue (is_some (letter_of alphabet field)) ↔ IsLetter alphabet field }

@@ -3,9 +3,8 @@
 ghost use Rattle.std.specs.Prelude.{◌≡◌, ◌<◌, ◌≤◌, ◌==◌, ◌+◌, length, take, drop, ◌∷◌};
 ghost use Rattle.std.specs.List.{position};
 ghost use Rattle.std.specs.Str.Lines.{strip_carriage_return};
-ghost use Rattle.automaton_file.specs.LineText.{text_lines, line_len, fields, is_allowed, is_plain, is_significant};
+ghost use Rattle.automaton_file.specs.LineText.{text_lines, line_len, fields, is_allowed, is_plain, is_significant, IsNextLine};
 ghost use Rattle.automaton_file.specs.FileText.{most_bytes};
-ghost use Rattle.automaton_file.specs.Reading.{IsNextLine};
 
 use crate::fields::first_field;
 

@@ -9,8 +9,7 @@ ghost use Rattle.regex_reader.specs.Expressions.{tree_of};
 ghost use Rattle.automaton_file.specs.LineText.{fields};
 ghost use Rattle.automaton_file.specs.ExprText.{is_expression};
 ghost use Rattle.automaton_file.specs.FileText.{unless, header_fault, alphabet_fault, letters_of, count_of, body_fault, is_state, marks_fault, letter_of, step_fault};
-ghost use Rattle.automaton_file.specs.Reading.{with_marks, with_line, with_step_line};
-ghost use Rattle.automaton_file.specs.Reading.{IsBodyLine, mark_word, mark_state, IsLineFault};
+ghost use Rattle.automaton_file.specs.Reading.{with_marks, with_line, with_step_line, IsBodyLine, mark_word, mark_state, IsLineFault};
 
 use crate::faults::LineFault;
 use crate::fields::{first_field, number_below};

@@ -4,9 +4,9 @@ ghost use Rattle.std.specs.Prelude.{◌≡◌, ◌≤◌, None, Some, true, fals
 ghost use Rattle.syn_words.specs.Alphabet.{IsAlphabet};
 ghost use Rattle.syn_words.specs.Nfa.{bare};
 ghost use Rattle.automaton_file.specs.LineText.{text_lines, fields, parts};
+ghost use Rattle.automaton_file.specs.Parts.{most_states};
 ghost use Rattle.automaton_file.specs.FileText.{most_bytes, code_of, header_fault, alphabet_fault, body_fault, marks_fault, step_fault, source_text, body_text, CanBuild, IsSource, IsSoundSource, IsFileRefusal};
-ghost use Rattle.automaton_file.specs.Reading.{with_step_line, automaton_of, with_step_lines, ReadsSource};
-ghost use Rattle.automaton_file.specs.Reading.{lines_from, IsPart, IsAhead, IsBadPart, IsNoPart, IsRefusedPart, IsFaultyPart, IsHeaderTaken, IsAlphabetTaken, IsBodyTaken, IsMarksTaken, mark_word, IsReadFault, IsFaultAt, IsHead, first_fault, automaton_first_fault, steps_first_fault, nothing_first_fault};
+ghost use Rattle.automaton_file.specs.Reading.{with_step_line, automaton_of, with_step_lines, ReadsSource, lines_from, IsPart, IsAhead, IsBadPart, IsNoPart, IsRefusedPart, IsFaultyPart, IsHeaderTaken, IsAlphabetTaken, IsBodyTaken, IsMarksTaken, mark_word, IsReadFault, IsFaultAt, IsHead, first_fault, automaton_first_fault, steps_first_fault, nothing_first_fault};
 
 use crate::cursor::Cursor;
 use crate::faults::{BadLine, LineFault, ReadFault};
@@ -231,7 +231,7 @@ fn read_nfa(
 ) -> Result<Nfa, ReadFault>
     requires alphabet { IsAlphabet alphabet.now }
     requires some { 1 ≤ count }
-    requires few { count ≤ 1000 }
+    requires few { count ≤ most_states }
     ensures ok { IfOk result
         (λ m. (automaton_first_fault alphabet.now count [] cursor.entry.number
         (lines_from cursor.entry) ≡ None)

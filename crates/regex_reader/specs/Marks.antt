@@ -1,6 +1,11 @@
 -- A relation of numbers below a width, as a square table.
 use Rattle.std.specs.Prelude.{◌≡◌, ℕ, ◌+◌, ◌*◌, ◌<◌, ◌≤◌, Bool, false, ◌||◌, List, slice_index_or}
 
+-- the greatest width of a table: an expression has at most 4,000 letters, and before them there is
+-- the start
+abbrev pub widest : ℕ
+widest = 4001
+
 -- a row for each number below the width, one behind the other
 pub record Table : Type 0 where
   pub width : ℕ

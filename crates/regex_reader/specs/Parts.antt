@@ -6,7 +6,7 @@ use Rattle.expression_theory.specs.Positions.{signs, numbered}
 use Rattle.expression_theory.specs.FirstLast.{has_word, has_empty, firsts, lasts, has, follows}
 use Rattle.expression_theory.specs.Polish.{Node, built, arity, trees, IsNotation, letters, signs_among, follows_among}
 use Rattle.regex_reader.specs.declared.parts.Part.{Part}
-use Rattle.regex_reader.specs.Marks.{Table, is_marked}
+use Rattle.regex_reader.specs.Marks.{widest, Table, is_marked}
 
 -- each sign that can begin a word of the tree can follow each that can end one
 abbrev pub IsClosed : Tree → Type 0
@@ -45,14 +45,14 @@ pub record CanRead (ns : List Node) (n : ℕ) (parts : List Part) (table : Table
   pub some : 0 < length ns
   pub notation : IsNotation ns
   pub room : length (letters ns) < table.width
-  pub narrow : table.width ≤ 4001
+  pub narrow : table.width ≤ widest
   pub behind : IsEvaluated (trees (drop 1 ns)) n parts table
 
 -- so many of the parts can be put together
 pub record CanCombine (count n : ℕ) (parts : List Part) (table : Table) : Type 0 where
   pub trees : List Tree
   pub many : count ≤ length trees
-  pub narrow : table.width ≤ 4001
+  pub narrow : table.width ≤ widest
   pub evaluated : IsEvaluated trees n parts table
 
 -- the node has taken its parts
@@ -63,7 +63,7 @@ HasCombined node n old before k new after =
 
 -- the two parts fit into the table
 pub record CanJoin (n : ℕ) (left right : Part) (table : Table) : Type 0 where
-  pub narrow : table.width ≤ 4001
+  pub narrow : table.width ≤ widest
   pub room : n + left.signs + right.signs ≤ table.width
   pub last : All (λ p. p < table.width) left.last.items
   pub first : All (λ p. p < table.width) right.first.items

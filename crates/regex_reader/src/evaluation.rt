@@ -4,7 +4,7 @@ ghost use Rattle.expression_theory.specs.Polish as notation;
 ghost use Rattle.regex_reader.specs.Notations.{node_of};
 ghost use Rattle.regex_reader.specs.Parts.{IsPart, IsFollowing, IsEvaluated, CanRead, CanCombine, HasCombined, CanJoin, HasJoined, CanRepeat, HasRepeated};
 ghost use Rattle.expression_theory.specs.Expression.{Tree, Opt};
-ghost use Rattle.regex_reader.specs.Marks.{Table, is_marked};
+ghost use Rattle.regex_reader.specs.Marks.{widest, Table, is_marked};
 
 use crate::marks::Marks;
 use crate::parts::{Part, bare, behind, either, have_words, one_sign};
@@ -196,7 +196,7 @@ fn read_first(
 fn read_all(nodes: &[Node], parts: &mut Vec<Part>, marks: &mut Marks) -> Result<(), Memory>
     requires notation { notation.IsNotation (map node_of nodes.now) }
     requires room { marks.old.width ≡ length (notation.letters (map node_of nodes.now)) + 1 }
-    requires narrow { marks.old.width ≤ 4001 }
+    requires narrow { marks.old.width ≤ widest }
     requires bare { (p q : ℕ) → is_marked marks.old p q ≡ false }
     requires none { parts.old.items ≡ [] }
     ensures evaluated { OnOk result
@@ -217,7 +217,7 @@ fn read_all(nodes: &[Node], parts: &mut Vec<Part>, marks: &mut Marks) -> Result<
 pub fn evaluate(alloc: Global, nodes: &[Node], marks: &mut Marks) -> Result<Part, Memory>
     requires notation { notation.IsNotation (map node_of nodes.now) }
     requires room { marks.old.width ≡ length (notation.letters (map node_of nodes.now)) + 1 }
-    requires narrow { marks.old.width ≤ 4001 }
+    requires narrow { marks.old.width ≤ widest }
     requires bare { (p q : ℕ) → is_marked marks.old p q ≡ false }
     requires tree { (t : Tree) × (map node_of nodes.now ≡ notation.polish t) }
     ensures part { IfOk result (λ r. (t : Tree) → map node_of nodes.now ≡ notation.polish t

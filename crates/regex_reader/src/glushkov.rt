@@ -9,7 +9,7 @@ ghost use Rattle.expression_theory.specs.FirstLast.{has};
 ghost use Rattle.expression_theory.specs.Polish as notation;
 ghost use Rattle.regex_reader.specs.Expressions.{tree_of};
 ghost use Rattle.regex_reader.specs.Notations.{node_of};
-ghost use Rattle.regex_reader.specs.Marks.{is_marked};
+ghost use Rattle.regex_reader.specs.Marks.{widest, is_marked};
 ghost use Rattle.regex_reader.specs.Growth.{HasFinals, HasGrown, IsOneStep, IsRowStep, IsTableStep, IsBuilt};
 
 use crate::Expr;
@@ -90,7 +90,7 @@ fn add_row(nfa: &mut Nfa, marks: &Marks, letters: &[u8], state: u32) -> Result<(
     requires state { state < marks.now.width }
     requires letters { All (λ a. a < nfa.old.letters) letters.now }
     requires width { marks.now.width ≡ length letters.now + 1 }
-    requires narrow { marks.now.width ≤ 4001 }
+    requires narrow { marks.now.width ≤ widest }
     ensures { OnOk result
         (HasGrown nfa.old nfa.new (IsRowStep marks.now letters.now state (length letters.now))) }
 {
@@ -106,7 +106,7 @@ fn add_rows(nfa: &mut Nfa, marks: &Marks, letters: &[u8]) -> Result<(), Memory>
     requires states { nfa.old.states ≡ marks.now.width }
     requires letters { All (λ a. a < nfa.old.letters) letters.now }
     requires width { marks.now.width ≡ length letters.now + 1 }
-    requires narrow { marks.now.width ≤ 4001 }
+    requires narrow { marks.now.width ≤ widest }
     ensures { OnOk result
         (HasGrown nfa.old nfa.new (IsTableStep marks.now letters.now marks.now.width)) }
 {
@@ -128,7 +128,7 @@ fn build(
     requires some { 1 ≤ letters }
     requires few { letters ≤ 60 }
     requires width { marks.now.width ≡ length signs.now + 1 }
-    requires narrow { marks.now.width ≤ 4001 }
+    requires narrow { marks.now.width ≤ widest }
     requires last { All (λ p. p < length signs.now + 1) part.now.last.items }
     requires letters { All (λ a. a < letters) signs.now }
     ensures { IfOk result

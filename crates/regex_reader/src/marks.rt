@@ -2,7 +2,7 @@
 ghost use Rattle.std.specs.Prelude.{◌≡◌, ℕ, ◌+◌, ◌*◌, ◌<◌, ◌≤◌, Bool, false, ◌&&◌, ◌==◌, List, length, slice_index_or, IfOk};
 ghost use Rattle.std.specs.List.{All};
 ghost use Rattle.expression_theory.specs.FirstLast.{has};
-ghost use Rattle.regex_reader.specs.Marks.{Table, is_marked, IsAdded, IsCleared};
+ghost use Rattle.regex_reader.specs.Marks.{widest, Table, is_marked, IsAdded, IsCleared};
 
 use std::alloc::Global;
 use std::marker::Model;
@@ -32,19 +32,19 @@ pub struct Marks {
 
 impl Model for Marks {
     ghost use Rattle.std.specs.Prelude.{◌≡◌, ◌*◌, ◌≤◌, length};
-    ghost use Rattle.regex_reader.specs.Marks.{Table};
+    ghost use Rattle.regex_reader.specs.Marks.{widest, Table};
 
     ghost Value = { Table };
 
     ghost view = { λ m. record { width = m.width; places = m.places.items } };
 
-    ghost invariant = { λ m. (length m.places.items ≡ m.width * m.width) × (m.width ≤ 4001) };
+    ghost invariant = { λ m. (length m.places.items ≡ m.width * m.width) × (m.width ≤ widest) };
 }
 
 impl Marks {
     /// No pair.
     pub fn new(alloc: Global, width: usize) -> Result<Marks, Memory>
-        requires { width ≤ 4001 }
+        requires { width ≤ widest }
         ensures { IfOk result (λ m. (m.width ≡ width) × ((p q : ℕ) → is_marked m p q ≡ false)) }
     {
         Ok(Marks {
@@ -56,7 +56,7 @@ impl Marks {
     /// The width.
     pub fn width(&self) -> usize
         ensures width { result ≡ self.now.width }
-        ensures narrow { result ≤ 4001 }
+        ensures narrow { result ≤ widest }
     {
         self.width
     }

@@ -5,8 +5,7 @@ use Rattle.language_theory.specs.Automaton.{Automaton}
 use Rattle.syn_words.specs.Nfa.{bare}
 use Rattle.automaton_file.specs.declared.sources.Wrong.{Wrong}
 use Rattle.automaton_file.specs.LineText.{parts}
-use Rattle.automaton_file.specs.Reading.{automaton_of}
-use Rattle.automaton_file.specs.Reading.{IsReadFault, lines_from, steps_first_fault}
+use Rattle.automaton_file.specs.Reading.{automaton_of, IsReadFault, lines_from, steps_first_fault}
 use Rattle.automaton_file.proofs.PartFaults.{marks_then_steps, marks_then_step_lines}
 use Rattle.automaton_file.proofs.reading.read_nfa.Goals as goal
 

@@ -4,8 +4,7 @@ use Rattle.std.proofs.lemmas.Result.{err_from_is_err_and}
 use Rattle.automaton_file.specs.declared.sources.Wrong.{Wrong}
 use Rattle.automaton_file.specs.LineText.{fields}
 use Rattle.automaton_file.specs.FileText.{step_fault}
-use Rattle.automaton_file.specs.Reading.{with_step_lines}
-use Rattle.automaton_file.specs.Reading.{IsAhead, IsReadFault, lines_from, steps_first_fault}
+use Rattle.automaton_file.specs.Reading.{with_step_lines, IsAhead, IsReadFault, lines_from, steps_first_fault}
 use Rattle.automaton_file.proofs.PartFaults.{step_faulty, step_behind, step_lines_behind, parts_at_end, steps_at_end}
 use Rattle.automaton_file.proofs.reading.read_steps.Goals as goal
 

@@ -1,7 +1,6 @@
 use Rattle.std.proofs.Common.{◌≡◌}
 use Rattle.automaton_file.specs.LineText.{parts}
-use Rattle.automaton_file.specs.Reading.{with_step_lines}
-use Rattle.automaton_file.specs.Reading.{lines_from, left, steps_first_fault}
+use Rattle.automaton_file.specs.Reading.{with_step_lines, lines_from, left, steps_first_fault}
 use Rattle.automaton_file.proofs.reading.read_steps.Given as goal
 
 abbrev pub invariant-lines : goal.invariant-lines
