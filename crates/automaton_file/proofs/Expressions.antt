@@ -5,6 +5,7 @@ use Rattle.std.specs.Option.{option_or}
 use Rattle.std.proofs.lemmas.Bool.{and_parts, and_from, not-true, not_from_false, eq-eqb, eqb-true, cases_lt}
 use Rattle.expression_theory.specs.Scan.{Class, FaultKind, classes, failing_at, due_from, depth, IsAccepted, IsFault, SpellsTree}
 use Rattle.expression_theory.proofs.Faults.{accepted_or_fault}
+use Rattle.automaton_file.specs.declared.sources.Wrong.TheVariants as wrong
 use Rattle.automaton_file.specs.LineText.{fields, behind_first}
 use Rattle.automaton_file.specs.ExprText.{is_clear, is_accepted, is_expression}
 use Rattle.automaton_file.specs.FileText.{unless, is_expr, body_fault}
@@ -12,7 +13,7 @@ use Rattle.expression_theory.specs.Expression.{Tree}
 use Rattle.regex_reader.specs.Readers.{IsFirstFault}
 use Rattle.regex_reader.specs.declared.fault.ExprFault.{ExprFault}
 use Rattle.regex_reader.specs.declared.fault.ExprFault.TheVariants as expr
-use Rattle.automaton_file.specs.declared.parts.LineFault.{LineFault}
+use Rattle.automaton_file.specs.declared.faults.LineFault.{LineFault}
 use Rattle.automaton_file.specs.Reading.{IsRaised, IsLineFault}
 
 is_none_none : (o : Option FaultKind) → is_none o ≡ true → o ≡ None
@@ -62,22 +63,22 @@ fault_test cs k i fault = by (is_accepted cs) refl
 pub expression_passes : (letters line : List ℕ) → body_fault letters line ≡ None → is_expr (fields line) ≡ true → is_expression letters (behind_first line) ≡ true
 expression_passes letters line pass e = by (is_expr (fields line)) _ _ (is_expression letters (behind_first line)) pass e
   where
-    by : (e n c x : Bool) → option_or (unless (e || n) 3) (option_or (unless (e || c) 4) (unless (not e || x) 8)) ≡ None → e ≡ true → x ≡ true
+    by : (e n c x : Bool) → option_or (unless (e || n) wrong.Body) (option_or (unless (e || c) wrong.Count) (unless (not e || x) wrong.Expression)) ≡ None → e ≡ true → x ≡ true
     by true n c true p h = refl
-    by true n c false p h = absurd (let wrong : Some 8 ≡ None = p in cc)
+    by true n c false p h = absurd (let no : Some wrong.Expression ≡ None = p in cc)
     by false n c x p h = absurd (cc)
 
 -- the tests of a body line with `expr`
-pub expression_tested : (letters line more : List ℕ) (b : Bool) → is_expr (fields line) ≡ true → behind_first line ≡ more → is_expression letters more ≡ b → body_fault letters line ≡ unless b 8
+pub expression_tested : (letters line more : List ℕ) (b : Bool) → is_expr (fields line) ≡ true → behind_first line ≡ more → is_expression letters more ≡ b → body_fault letters line ≡ unless b wrong.Expression
 expression_tested letters line more b e same is = let x : is_expression letters (behind_first line) ≡ b = ap (is_expression letters) same ∙ is in rw (e, x) refl
 
 -- the fault of a text is that of its line
-pub fault_raised : (cs : List Class) (fault : ExprFault) (raised : LineFault) → IsFirstFault cs fault → IsRaised fault raised → IsLineFault (unless (is_accepted cs) 8) raised
-fault_raised cs expr.Memory raised h same = subst (IsLineFault (unless (is_accepted cs) 8)) (sym same) tt
-fault_raised cs (expr.Unexpected at) raised h same = subst (IsLineFault (unless (is_accepted cs) 8)) (sym same) (ap (λ (b : Bool). unless b 8) (fault_test cs _ at h))
-fault_raised cs (expr.UnknownLetter at) raised h same = subst (IsLineFault (unless (is_accepted cs) 8)) (sym same) (ap (λ (b : Bool). unless b 8) (fault_test cs _ at h))
-fault_raised cs (expr.TooDeep at) raised h same = subst (IsLineFault (unless (is_accepted cs) 8)) (sym same) (ap (λ (b : Bool). unless b 8) (fault_test cs _ at h))
-fault_raised cs (expr.TooLarge at) raised h same = subst (IsLineFault (unless (is_accepted cs) 8)) (sym same) (ap (λ (b : Bool). unless b 8) (fault_test cs _ at h))
+pub fault_raised : (cs : List Class) (fault : ExprFault) (raised : LineFault) → IsFirstFault cs fault → IsRaised fault raised → IsLineFault (unless (is_accepted cs) wrong.Expression) raised
+fault_raised cs expr.Memory raised h same = subst (IsLineFault (unless (is_accepted cs) wrong.Expression)) (sym same) tt
+fault_raised cs (expr.Unexpected at) raised h same = subst (IsLineFault (unless (is_accepted cs) wrong.Expression)) (sym same) (ap (λ (b : Bool). unless b wrong.Expression) (fault_test cs _ at h))
+fault_raised cs (expr.UnknownLetter at) raised h same = subst (IsLineFault (unless (is_accepted cs) wrong.Expression)) (sym same) (ap (λ (b : Bool). unless b wrong.Expression) (fault_test cs _ at h))
+fault_raised cs (expr.TooDeep at) raised h same = subst (IsLineFault (unless (is_accepted cs) wrong.Expression)) (sym same) (ap (λ (b : Bool). unless b wrong.Expression) (fault_test cs _ at h))
+fault_raised cs (expr.TooLarge at) raised h same = subst (IsLineFault (unless (is_accepted cs) wrong.Expression)) (sym same) (ap (λ (b : Bool). unless b wrong.Expression) (fault_test cs _ at h))
 
 -- what a body line with `expr` begins, where its text spells an expression
 pub expression_begun : (letters line more : List ℕ) (tree : Tree) → is_expr (fields line) ≡ true → more ≡ behind_first line → is_expression letters more ≡ true → SpellsTree (classes letters more) tree → (body_fault letters line ≡ None) × (is_expr (fields line) ≡ true) × SpellsTree (classes letters (behind_first line)) tree

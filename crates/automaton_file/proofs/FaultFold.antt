@@ -4,29 +4,32 @@ use Rattle.std.specs.Prelude.{Bool, cond, not, Option, Some, None, nat_le}
 use Rattle.std.specs.Option.{option_or}
 use Rattle.std.specs.List.{list_all}
 use Rattle.std.proofs.lemmas.Bool.{and_parts, not-true, le-leb}
-use Rattle.automaton_file.specs.LineText.{is_plain, fields, is_significant, parts}
-use Rattle.automaton_file.specs.FileText.{Lines, unless, part_fault, is_whole, is_expr, letters_in, state_count, automaton_fault, step_fault}
-use Rattle.automaton_file.specs.Reading.{is_skipped, IsSkip, fault_else, faults_by, first_fault, automaton_first_fault, steps_first_fault, nothing_first_fault}
+use Rattle.automaton_file.specs.declared.sources.Wrong.{Wrong}
+use Rattle.automaton_file.specs.declared.sources.Wrong.TheVariants as wrong
+use Rattle.automaton_file.specs.LineText.{is_plain, fields, is_significant, parts, is_skipped, IsSkip}
+use Rattle.automaton_file.specs.FileText.{unless, part_fault, is_whole, is_expr, letters_in, state_count, automaton_fault, step_fault}
+use Rattle.automaton_file.specs.Parts.{Lines}
+use Rattle.automaton_file.specs.Reading.{fault_else, faults_by, first_fault, automaton_first_fault, steps_first_fault, nothing_first_fault}
 
 -- the test of a line, whole
-abbrev pub tested : (Lines → List ℕ → Option ℕ) → Lines → List ℕ → Option ℕ
-tested test earlier text = option_or (unless (is_plain text) 10) (cond (is_significant (fields text)) (test earlier text) None)
+abbrev pub tested : (Lines → List ℕ → Option Wrong) → Lines → List ℕ → Option Wrong
+tested test earlier text = option_or (unless (is_plain text) wrong.Byte) (cond (is_significant (fields text)) (test earlier text) None)
 
 skipped_parts : (text : List ℕ) → is_skipped text ≡ true → (is_plain text ≡ true) × (is_significant (fields text) ≡ false)
 skipped_parts text h =
     let both = and_parts (is_plain text) (not (is_significant (fields text))) h in
     (both.0, not-true _ both.1)
 
-pub tested_skipped : (test : Lines → List ℕ → Option ℕ) (earlier : Lines) (text : List ℕ) → is_skipped text ≡ true → tested test earlier text ≡ None
+pub tested_skipped : (test : Lines → List ℕ → Option Wrong) (earlier : Lines) (text : List ℕ) → is_skipped text ≡ true → tested test earlier text ≡ None
 tested_skipped test earlier text h = let is = skipped_parts text h in rw (is.0, is.1) refl
 
 part_skipped : (text : List ℕ) → is_skipped text ≡ true → parts (text ∷ []) ≡ []
 part_skipped text h = let is = skipped_parts text h in rw is.1 refl
 
-pub tested_bad : (test : Lines → List ℕ → Option ℕ) (earlier : Lines) (text : List ℕ) → is_plain text ≡ false → tested test earlier text ≡ Some 10
+pub tested_bad : (test : Lines → List ℕ → Option Wrong) (earlier : Lines) (text : List ℕ) → is_plain text ≡ false → tested test earlier text ≡ Some wrong.Byte
 tested_bad test earlier text h = rw h refl
 
-pub tested_part : (test : Lines → List ℕ → Option ℕ) (earlier : Lines) (text : List ℕ) → is_plain text ≡ true → is_significant (fields text) ≡ true → tested test earlier text ≡ test earlier text
+pub tested_part : (test : Lines → List ℕ → Option Wrong) (earlier : Lines) (text : List ℕ) → is_plain text ≡ true → is_significant (fields text) ≡ true → tested test earlier text ≡ test earlier text
 tested_part test earlier text h k = rw (h, k) refl
 
 pub part_alone : (text : List ℕ) → is_significant (fields text) ≡ true → parts (text ∷ []) ≡ text ∷ []
@@ -36,12 +39,12 @@ pub parts_more : (text : List ℕ) (more : List (List ℕ)) → is_significant (
 parts_more text more h = rw h refl
 
 -- skipped lines have no fault
-pub skip_faults : (test : Lines → List ℕ → Option ℕ) (whole : Lines → Bool) (earlier : Lines) (number : ℕ) (skipped rest : List (List ℕ)) → list_all is_skipped skipped ≡ true → faults_by test whole earlier number (skipped ++ rest) ≡ faults_by test whole earlier (number + length skipped) rest
+pub skip_faults : (test : Lines → List ℕ → Option Wrong) (whole : Lines → Bool) (earlier : Lines) (number : ℕ) (skipped rest : List (List ℕ)) → list_all is_skipped skipped ≡ true → faults_by test whole earlier number (skipped ++ rest) ≡ faults_by test whole earlier (number + length skipped) rest
 skip_faults test whole earlier number [] rest h = let same : number ≡ number + length {A = List ℕ} [] = omega arith in ap (λ (n : ℕ). faults_by test whole earlier n rest) same
 skip_faults test whole earlier number (t ∷ ts) rest h =
     let both = and_parts (is_skipped t) (list_all is_skipped ts) h in
     let same : number + 1 + length ts ≡ number + length (t ∷ ts) = omega arith in
-    ap (λ (o : Option ℕ). fault_else o number (faults_by test whole (earlier ++ parts (t ∷ [])) (number + 1) (ts ++ rest))) (tested_skipped test earlier t both.0)
+    ap (λ (o : Option Wrong). fault_else o number (faults_by test whole (earlier ++ parts (t ∷ [])) (number + 1) (ts ++ rest))) (tested_skipped test earlier t both.0)
     ∙ ap (λ (e : Lines). faults_by test whole e (number + 1) (ts ++ rest)) (ap (λ (p : Lines). earlier ++ p) (part_skipped t both.0) ∙ append-nil earlier)
     ∙ skip_faults test whole earlier (number + 1) ts rest both.1
     ∙ ap (λ (n : ℕ). faults_by test whole earlier n rest) same
@@ -53,7 +56,7 @@ skip_parts (t ∷ ts) rest h =
     rw (skipped_parts t both.0).1 (skip_parts ts rest both.1)
 
 -- the same, for what a reader skips
-pub faults_behind : (test : Lines → List ℕ → Option ℕ) (whole : Lines → Bool) (earlier : Lines) (texts rest : List (List ℕ)) (number at : ℕ) → IsSkip texts number rest at → faults_by test whole earlier number texts ≡ faults_by test whole earlier at rest
+pub faults_behind : (test : Lines → List ℕ → Option Wrong) (whole : Lines → Bool) (earlier : Lines) (texts rest : List (List ℕ)) (number at : ℕ) → IsSkip texts number rest at → faults_by test whole earlier number texts ≡ faults_by test whole earlier at rest
 faults_behind test whole earlier texts rest number at s =
     ap (faults_by test whole earlier number) s.split ∙ skip_faults test whole earlier number s.skipped rest s.each ∙ ap (λ (n : ℕ). faults_by test whole earlier n rest) (sym s.counted)
 
@@ -61,17 +64,17 @@ pub parts_behind : (texts rest : List (List ℕ)) (number at : ℕ) → IsSkip t
 parts_behind texts rest number at s = ap parts s.split ∙ skip_parts s.skipped rest s.each
 
 -- a fault at the first significant line, or one behind it
-pub faults_at : (test : Lines → List ℕ → Option ℕ) (whole : Lines → Bool) (earlier : Lines) (text : List ℕ) (rest : List (List ℕ)) (number : ℕ) → is_plain text ≡ true → is_significant (fields text) ≡ true → faults_by test whole earlier number (text ∷ rest) ≡ fault_else (test earlier text) number (faults_by test whole (earlier ++ text ∷ []) (number + 1) rest)
+pub faults_at : (test : Lines → List ℕ → Option Wrong) (whole : Lines → Bool) (earlier : Lines) (text : List ℕ) (rest : List (List ℕ)) (number : ℕ) → is_plain text ≡ true → is_significant (fields text) ≡ true → faults_by test whole earlier number (text ∷ rest) ≡ fault_else (test earlier text) number (faults_by test whole (earlier ++ text ∷ []) (number + 1) rest)
 faults_at test whole earlier text rest number plain significant =
-    ap (λ (o : Option ℕ). fault_else o number (faults_by test whole (earlier ++ parts (text ∷ [])) (number + 1) rest)) (tested_part test earlier text plain significant)
+    ap (λ (o : Option Wrong). fault_else o number (faults_by test whole (earlier ++ parts (text ∷ [])) (number + 1) rest)) (tested_part test earlier text plain significant)
     ∙ ap (λ (p : Lines). fault_else (test earlier text) number (faults_by test whole (earlier ++ p) (number + 1) rest)) (part_alone text significant)
 
 -- tests that do not look at the lines in front
-pub faults_shift : (test other : Lines → List ℕ → Option ℕ) (whole all : Lines → Bool) (front : Lines) → ((more : Lines) (line : List ℕ) → test (front ++ more) line ≡ other more line) → ((more : Lines) → whole (front ++ more) ≡ all more) → (more : Lines) (number : ℕ) (texts : List (List ℕ)) → faults_by test whole (front ++ more) number texts ≡ faults_by other all more number texts
-faults_shift test other whole all front ht hw more number [] = ap (λ (b : Bool). cond b None (Some (number, 7))) (hw more)
+pub faults_shift : (test other : Lines → List ℕ → Option Wrong) (whole all : Lines → Bool) (front : Lines) → ((more : Lines) (line : List ℕ) → test (front ++ more) line ≡ other more line) → ((more : Lines) → whole (front ++ more) ≡ all more) → (more : Lines) (number : ℕ) (texts : List (List ℕ)) → faults_by test whole (front ++ more) number texts ≡ faults_by other all more number texts
+faults_shift test other whole all front ht hw more number [] = ap (λ (b : Bool). cond b None (Some (number, wrong.Missing))) (hw more)
 faults_shift test other whole all front ht hw more number (t ∷ ts) =
-    ap (λ (o : Option ℕ). fault_else (option_or (unless (is_plain t) 10) (cond (is_significant (fields t)) o None)) number (faults_by test whole (front ++ more ++ parts (t ∷ [])) (number + 1) ts)) (ht more t)
-    ∙ ap (λ (r : Option (ℕ × ℕ)). fault_else (tested other more t) number r)
+    ap (λ (o : Option Wrong). fault_else (option_or (unless (is_plain t) wrong.Byte) (cond (is_significant (fields t)) o None)) number (faults_by test whole (front ++ more ++ parts (t ∷ [])) (number + 1) ts)) (ht more t)
+    ∙ ap (λ (r : Option (ℕ × Wrong)). fault_else (tested other more t) number r)
     (ap (λ (e : Lines). faults_by test whole e (number + 1) ts) (append_assoc front more (parts (t ∷ []))) ∙ faults_shift test other whole all front ht hw (more ++ parts (t ∷ [])) (number + 1) ts)
 
 -- behind the body line of an automaton
@@ -95,5 +98,5 @@ faults_behind_steps letters count earlier number texts =
 -- behind the body line of an expression
 pub faults_of_expression : (header alphabet body : List ℕ) (number : ℕ) (texts : List (List ℕ)) → is_expr (fields body) ≡ true → first_fault (header ∷ alphabet ∷ body ∷ []) number texts ≡ nothing_first_fault number texts
 faults_of_expression header alphabet body number texts h =
-    faults_shift part_fault (λ _ _. Some 9) is_whole (λ _. true) (header ∷ alphabet ∷ body ∷ [])
+    faults_shift part_fault (λ _ _. Some wrong.OutOfPlace) is_whole (λ _. true) (header ∷ alphabet ∷ body ∷ [])
     (λ more line. rw h refl) (λ more. rw h refl) [] number texts

@@ -67,7 +67,7 @@ no_alphabet_test text h = false_from_ne_true (is_alphabet text) (λ e. h (from_a
 position_none : (p : ℕ → Bool) (xs : List ℕ) → position_or_len p xs ≡ length xs → None ≡ position p xs
 position_none p xs e = let past : nat_lt (position_or_len p xs) (length xs) ≡ false = le-ltb _ _ (omega arith) in rw past
 
-position_some : (p : ℕ → Bool) (xs : List ℕ) (n : ℕ) → position_or_len p xs ≡ n → n < length xs → Some n ≡ position p xs
+pub position_some : (p : ℕ → Bool) (xs : List ℕ) (n : ℕ) → position_or_len p xs ≡ n → n < length xs → Some n ≡ position p xs
 position_some p xs n e h = let before : nat_lt (position_or_len p xs) (length xs) ≡ true = lt-ltb _ _ (omega arith) in rw before (ap Some (sym e))
 
 pub letter_found : (letters : List ℕ) (b : ℕ) (r : Option ℕ) → IsAlphabet letters → (IsNone r ↔ (¬ Contains letters b)) → IfSome r (λ n. (n < length letters) × (slice_index letters n ≡ b)) → r ≡ position (λ c. c == b) letters

@@ -5,9 +5,13 @@ pub mod Skips
 pub mod Letters
 pub mod Expressions
 pub mod PartLines
+pub mod PartTests
 pub mod FaultFold
 pub mod PartFaults
 pub mod WellSpelled
 pub mod SameAutomata
+pub mod Spelled
 pub mod Refusals
+pub mod ReadSources
 pub mod SourceLaws
+pub mod WorkedFile

@@ -8,11 +8,13 @@ use Rattle.std.proofs.lemmas.Bool.{ne_eqb, and_right}
 use Rattle.language_theory.specs.Automaton.{Automaton}
 use Rattle.syn_words.specs.Alphabet.{IsAlphabet}
 use Rattle.syn_words.specs.Nfa.{with_step}
+use Rattle.automaton_file.specs.declared.sources.Wrong.TheVariants as wrong
 use Rattle.automaton_file.specs.declared.parts.Mark.{Mark}
 use Rattle.automaton_file.specs.declared.parts.Mark.TheVariants.{Initial, Final}
 use Rattle.automaton_file.specs.LineText.{fields, value, number_below}
-use Rattle.automaton_file.specs.FileText.{Fields, unless, begins_with, alphabet_fault, is_alphabet, letters_of, count_of, state_count, is_expr, body_fault, is_state, with_marks, letter_of, step_fault, with_step_line}
-use Rattle.automaton_file.specs.Reading.{mark_state}
+use Rattle.automaton_file.specs.FileText.{unless, begins_with, alphabet_fault, is_alphabet, letters_of, count_of, state_count, is_expr, body_fault, is_state, letter_of, step_fault}
+use Rattle.automaton_file.specs.Parts.{Fields}
+use Rattle.automaton_file.specs.Reading.{with_marks, with_step_line, mark_state}
 use Rattle.automaton_file.proofs.Digits.{number_below_gives, number_below_or_zero}
 use Rattle.automaton_file.proofs.Letters.{alphabet_test, no_alphabet_test}
 
@@ -22,12 +24,12 @@ count_of_le (number ∷ []) = number_below_or_zero 1000 number
 count_of_le (number ∷ other ∷ more) = omega arith
 
 -- the tests of a body line with `nfa`
-pub automaton_tested : (letters line : List ℕ) → is_expr (fields line) ≡ false → begins_with (codes "nfa") (fields line) ≡ true → (b : Bool) → (state_count (fields line) == 0) ≡ b → body_fault letters line ≡ unless (not b) 4
+pub automaton_tested : (letters line : List ℕ) → is_expr (fields line) ≡ false → begins_with (codes "nfa") (fields line) ≡ true → (b : Bool) → (state_count (fields line) == 0) ≡ b → body_fault letters line ≡ unless (not b) wrong.Count
 automaton_tested letters line expr nfa true is = rw (expr, nfa, is) refl
 automaton_tested letters line expr nfa false is = rw (expr, nfa, is) refl
 
 -- the test of a body line with another word
-pub other_tested : (letters line : List ℕ) → is_expr (fields line) ≡ false → begins_with (codes "nfa") (fields line) ≡ false → body_fault letters line ≡ Some 3
+pub other_tested : (letters line : List ℕ) → is_expr (fields line) ≡ false → begins_with (codes "nfa") (fields line) ≡ false → body_fault letters line ≡ Some wrong.Body
 other_tested letters line expr nfa = rw (expr, nfa) refl
 
 pub body_of_count : (letters line : List ℕ) (more : Fields) (word : List ℕ) (n : ℕ) → fields line ≡ word ∷ more → bytes_eq word (codes "expr") ≡ false → bytes_eq word (codes "nfa") ≡ true → n ≡ count_of more → n ≢ 0 → (body_fault letters line ≡ None) × ((is_expr (fields line) ≡ false) × (state_count (fields line) ≡ n) × (1 ≤ n) × (n ≤ 1000))
@@ -41,7 +43,7 @@ alphabet_passes line more word letters e is same h =
     let test : is_alphabet (concat more) ≡ true = ap is_alphabet (sym same) ∙ alphabet_test letters h in
     (ap alphabet_fault e ∙ rw (is, test), same ∙ ap letters_of (sym e), h)
 
-pub alphabet_fails : (line more : Fields) (word letters : List ℕ) → line ≡ word ∷ more → letters ≡ concat more → ¬ IsAlphabet letters → alphabet_fault line ≡ Some 2
+pub alphabet_fails : (line more : Fields) (word letters : List ℕ) → line ≡ word ∷ more → letters ≡ concat more → ¬ IsAlphabet letters → alphabet_fault line ≡ Some wrong.Alphabet
 alphabet_fails line more word letters e same h =
     let test : is_alphabet (concat more) ≡ false = ap is_alphabet (sym same) ∙ no_alphabet_test letters h in
     ap alphabet_fault e ∙ rw (test, and_right (begins_with (codes "alphabet") (word ∷ more)) false) refl

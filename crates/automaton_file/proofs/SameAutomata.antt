@@ -37,7 +37,7 @@ same_bool true c there back = sym (there refl)
 same_bool false true there back = back refl
 same_bool false false there back = refl
 
-by_same : {P : Type 0} (b c : Bool) → IsTrue b ↔ P → IsTrue c ↔ P → b ≡ c
+pub by_same : {P : Type 0} (b c : Bool) → IsTrue b ↔ P → IsTrue c ↔ P → b ≡ c
 by_same b c h k = same_bool b c (λ x. k.1 (h.0 x)) (λ x. h.1 (k.0 x))
 
 -- an expression has one position automaton

@@ -4,8 +4,7 @@ use Rattle.std.specs.Prelude.{not}
 use Rattle.std.specs.List.{list_all}
 use Rattle.std.proofs.lemmas.Bool.{and_parts, and_from, not_from_false}
 use Rattle.std.proofs.lemmas.List.{drop-drop, drop_all}
-use Rattle.automaton_file.specs.LineText.{text_lines, line_len, line_start, is_plain, is_significant, fields}
-use Rattle.automaton_file.specs.Reading.{is_skipped, IsSkip}
+use Rattle.automaton_file.specs.LineText.{text_lines, line_len, line_start, is_plain, is_significant, fields, is_skipped, IsSkip}
 use Rattle.automaton_file.proofs.TextLines.{text_lines_none}
 
 pub skip_none : (texts : List (List ℕ)) (number : ℕ) → IsSkip texts number texts number

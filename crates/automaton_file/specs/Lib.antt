@@ -1,4 +1,6 @@
 pub mod LineText
 pub mod ExprText
+pub mod Parts
 pub mod FileText
 pub mod Reading
+pub mod Examples

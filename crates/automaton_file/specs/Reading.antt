@@ -1,132 +1,158 @@
 -- Where the reader of a file stands, and the faults that it may still find.
 use Rattle.std.specs.Prelude.{◌≡◌, ◌+◌, ◌-◌, ◌<◌, ◌≤◌, ◌++◌, ⊤, ℕ, Bool, true, false, not, cond, ◌&&◌, nat_le, Option, Some, None, List, [], ◌∷◌, length, drop, slice_range, codes}
 use Rattle.std.specs.List.{list_all}
-use Rattle.std.specs.Option.{option_or}
+use Rattle.std.specs.Option.{unwrap_or, option_or}
 use Rattle.language_theory.specs.Automaton.{Automaton}
 use Rattle.syn_words.specs.Alphabet.{IsAlphabet}
-use Rattle.syn_words.specs.Nfa.{with_initial, with_final}
-use Rattle.automaton_file.specs.declared.lines.LineGot.{LineGot}
-use Rattle.automaton_file.specs.declared.lines.LineGot.TheVariants.{Line, BadByte, End}
+use Rattle.syn_words.specs.Nfa.{bare, with_initial, with_final, with_step}
+use Rattle.automaton_file.specs.declared.sources.Wrong.{Wrong}
+use Rattle.automaton_file.specs.declared.sources.Wrong.TheVariants as wrong
 use Rattle.automaton_file.specs.declared.parts.BodyLine.{BodyLine}
 use Rattle.automaton_file.specs.declared.parts.BodyLine.TheVariants.{Expr, Nfa}
 use Rattle.automaton_file.specs.declared.parts.Mark.{Mark}
 use Rattle.automaton_file.specs.declared.parts.Mark.TheVariants.{Initial, Final}
-use Rattle.automaton_file.specs.declared.parts.LineFault.{LineFault}
-use Rattle.automaton_file.specs.declared.parts.LineFault.TheVariants.{Code, Memory}
-use Rattle.automaton_file.specs.declared.reading.Place.{Place}
+use Rattle.automaton_file.specs.declared.faults.LineFault.{LineFault}
+use Rattle.automaton_file.specs.declared.faults.LineFault.TheVariants.{Bad, Memory}
+use Rattle.automaton_file.specs.declared.cursor.Cursor.{Cursor}
 use Rattle.automaton_file.specs.declared.reading.Part.{Part}
 use Rattle.automaton_file.specs.declared.reading.Ahead.{Ahead}
 use Rattle.automaton_file.specs.declared.reading.Ahead.TheVariants as ahead
 use Rattle.automaton_file.specs.declared.reading.Head.{Head}
-use Rattle.automaton_file.specs.declared.sources.Refusal.{Refusal}
-use Rattle.automaton_file.specs.declared.sources.FileFault.{FileFault}
-use Rattle.automaton_file.specs.declared.sources.FileFault.TheVariants as file
-use Rattle.automaton_file.specs.LineText.{text_lines, line_start, is_plain, fields, is_significant, parts, behind_first}
+use Rattle.automaton_file.specs.declared.faults.BadLine.{BadLine}
+use Rattle.automaton_file.specs.declared.faults.ReadFault.{ReadFault}
+use Rattle.automaton_file.specs.declared.faults.ReadFault.TheVariants as read
+use Rattle.automaton_file.specs.LineText.{text_lines, is_plain, fields, is_significant, parts, behind_first, value, IsSkip, IsEndAhead}
 use Rattle.expression_theory.specs.Scan.{classes, SpellsTree}
 use Rattle.expression_theory.specs.Positions.{IsWithin}
 use Rattle.regex_reader.specs.Expressions.{tree_of}
 use Rattle.regex_reader.specs.declared.fault.ExprFault.{ExprFault}
 use Rattle.regex_reader.specs.declared.fault.ExprFault.TheVariants as expr
-use Rattle.automaton_file.specs.FileText.{Lines, part_fault, automaton_fault, step_fault, unless, is_whole, is_expr, state_count, letters_in, header_fault, alphabet_fault, body_fault, marks_fault, with_line}
+use Rattle.automaton_file.specs.Parts.{most_states, Lines, Fields}
+use Rattle.automaton_file.specs.FileText.{most_bytes, BodyText, OfAutomaton, OfExpression, SourceText, part_fault, fault_at, automaton_fault, step_fault, unless, is_whole, is_expr, state_count, letters_in, letter_of, header_fault, alphabet_fault, body_fault, marks_fault}
 
--- blank or a comment, with allowed bytes alone
-abbrev pub is_skipped : List ℕ → Bool
-is_skipped text = is_plain text && not (is_significant (fields text))
+-- no line fails a test, and no part must still come
+pub record IsWellSpelled (texts : Lines) : Type 0 where
+  pub passes : (i : ℕ) → i < length texts → fault_at texts i ≡ None
+  pub whole : is_whole (parts texts) ≡ true
 
--- from the lines `texts`, the first of which has this number, some are skipped to the lines `rest`
-pub record IsSkip (texts : List (List ℕ)) (number : ℕ) (rest : List (List ℕ)) (next : ℕ) : Type 0 where
-  pub skipped : List (List ℕ)
-  pub split : texts ≡ skipped ++ rest
-  pub counted : next ≡ number + length skipped
-  pub each : list_all is_skipped skipped ≡ true
+-- The source as it is read: the same as the source that the text spells, by the laws of
+-- proofs/ReadSources.antt.
 
--- a place where a line may begin, with a number that it may have
-pub record IsPlace (bytes : List ℕ) (place : Place) : Type 0 where
-  pub within : place.at ≤ length bytes
-  pub some : 1 ≤ place.number
-  pub counted : place.number ≤ place.at + 1
+-- the automaton with the listed states marked
+abbrev pub with_marks : (Automaton → ℕ → Automaton) → Automaton → Fields → Automaton
+with_marks mark m [] = m
+with_marks mark m (state ∷ more) = with_marks mark (mark m (value state)) more
 
--- the lines from a place on
-abbrev pub lines_from : List ℕ → Place → List (List ℕ)
-lines_from bytes place = text_lines (drop place.at bytes)
+-- the same, for the fields behind the first one
+abbrev pub with_line : (Automaton → ℕ → Automaton) → Automaton → Fields → Automaton
+with_line mark m [] = m
+with_line mark m (word ∷ states) = with_marks mark m states
 
--- a line at `from` to `to`, before the text from `next` on, is the first one from `place` on that is significant or has a byte that isn't allowed, and it has none
-pub record IsLineAhead (bytes : List ℕ) (place number at from to next : ℕ) : Type 0 where
-  pub skip : IsSkip (text_lines (drop place bytes)) number (slice_range bytes from to ∷ text_lines (drop next bytes)) at
-  pub plain : is_plain (slice_range bytes from to) ≡ true
-  pub significant : is_significant (fields (slice_range bytes from to)) ≡ true
-  pub begins : from ≡ line_start bytes place (at - number)
-  pub ends : next ≡ line_start bytes place (at + 1 - number)
-  pub order : from ≤ to
-  pub inside : to ≤ next
-  pub onward : place < next
-  pub within : next ≤ length bytes
-  pub counted : at ≤ from + 1
-  pub rises : at < next + 1
+abbrev pub with_step_line : List ℕ → Automaton → Fields → Automaton
+with_step_line letters m [] = m
+with_step_line letters m (from ∷ []) = m
+with_step_line letters m (from ∷ letter ∷ []) = m
+with_step_line letters m (from ∷ letter ∷ to ∷ more) =
+    with_step m (value from) (unwrap_or (letter_of letters letter) 0) (value to)
 
--- the line with number `at` is the first one from `place` on that is significant or has a byte that isn't allowed, and it has one
-pub record IsBadAhead (bytes : List ℕ) (place number at : ℕ) : Type 0 where
-  pub text : List ℕ
-  pub rest : List (List ℕ)
-  pub skip : IsSkip (text_lines (drop place bytes)) number (text ∷ rest) at
-  pub bad : is_plain text ≡ false
+abbrev pub with_step_lines : List ℕ → Automaton → Lines → Automaton
+with_step_lines letters m [] = m
+with_step_lines letters m (line ∷ more) =
+    with_step_lines letters (with_step_line letters m (fields line)) more
 
--- no line from `place` on is significant or has a byte that isn't allowed, and there are `count` lines in all
-pub record IsEndAhead (bytes : List ℕ) (place number count : ℕ) : Type 0 where
-  pub skip : IsSkip (text_lines (drop place bytes)) number [] (count + 1)
-  pub few : count ≤ length bytes
+-- the automaton that the lines behind the body line spell
+abbrev pub automaton_of : List ℕ → Automaton → Lines → Automaton
+automaton_of letters m [] = m
+automaton_of letters m (initial ∷ []) = with_line with_initial m (fields initial)
+automaton_of letters m (initial ∷ final ∷ steps) =
+    with_step_lines letters
+    (with_line with_final (with_line with_initial m (fields initial)) (fields final)) steps
 
--- what stands from the place on where the line with this number begins
-abbrev pub IsNextLine : List ℕ → ℕ → ℕ → LineGot → Type 0
-IsNextLine bytes place number (Line at from to next) = IsLineAhead bytes place number at from to next
-IsNextLine bytes place number (BadByte at) = IsBadAhead bytes place number at
-IsNextLine bytes place number (End count) = IsEndAhead bytes place number count
+-- the body line, and those behind it, spell the body
+abbrev pub ReadsBody : List ℕ → List ℕ → Lines → BodyText → Type 0
+ReadsBody letters body more (OfAutomaton m) =
+    (is_expr (fields body) ≡ false)
+    × (m ≡ automaton_of letters (bare (state_count (fields body)) (length letters)) more)
+ReadsBody letters body more (OfExpression t) =
+    (is_expr (fields body) ≡ true) × SpellsTree (classes letters (behind_first body)) t
+
+-- the significant lines spell the source
+abbrev pub ReadsSource : Lines → SourceText → Type 0
+ReadsSource [] source = ⊥
+ReadsSource (header ∷ []) source = ⊥
+ReadsSource (header ∷ alphabet ∷ []) source = ⊥
+ReadsSource (header ∷ alphabet ∷ body ∷ more) source =
+    (source.letters ≡ letters_in alphabet) × ReadsBody (letters_in alphabet) body more source.body
+
+-- the bytes are read as this source
+pub record IsRead (bytes : List ℕ) (source : SourceText) : Type 0 where
+  pub short : length bytes ≤ most_bytes
+  pub spelled : IsWellSpelled (text_lines bytes)
+  pub same : ReadsSource (parts (text_lines bytes)) source
+
+-- the lines from a cursor on
+abbrev pub lines_from : Cursor → List (List ℕ)
+lines_from cursor = text_lines (drop cursor.at cursor.bytes.now)
+
+-- how many bytes stand from a cursor on
+abbrev pub left : Cursor → ℕ
+left cursor = length cursor.bytes.now - cursor.at
 
 -- the first fault, with the number of its line, where one line may have a fault
-abbrev pub fault_else : Option ℕ → ℕ → Option (ℕ × ℕ) → Option (ℕ × ℕ)
+abbrev pub fault_else : Option Wrong → ℕ → Option (ℕ × Wrong) → Option (ℕ × Wrong)
 fault_else None number next = next
-fault_else (Some code) number next = Some (number, code)
+fault_else (Some fault) number next = Some (number, fault)
 
--- The line and code of the first fault in these lines, the first of which has this number, behind earlier parts: by a test of each significant line, and whether no part must still come.
-abbrev pub faults_by : (Lines → List ℕ → Option ℕ) → (Lines → Bool) → Lines → ℕ → Lines → Option (ℕ × ℕ)
-faults_by test whole earlier number [] = cond (whole earlier) None (Some (number, 7))
+-- The line of the first fault and what is wrong with it in these lines, the first of which has
+-- this number, behind earlier parts: by a test of each significant line, and whether no part
+-- must still come.
+abbrev pub faults_by : (Lines → List ℕ → Option Wrong) → (Lines → Bool) → Lines → ℕ → Lines
+    → Option (ℕ × Wrong)
+faults_by test whole earlier number [] = cond (whole earlier) None (Some (number, wrong.Missing))
 faults_by test whole earlier number (text ∷ more) =
-    fault_else (option_or (unless (is_plain text) 10) (cond (is_significant (fields text)) (test earlier text) None)) number
+    fault_else (option_or (unless (is_plain text) wrong.Byte)
+    (cond (is_significant (fields text)) (test earlier text) None)) number
     (faults_by test whole (earlier ++ parts (text ∷ [])) (number + 1) more)
 
 -- the first fault in a file
-abbrev pub first_fault : Lines → ℕ → Lines → Option (ℕ × ℕ)
+abbrev pub first_fault : Lines → ℕ → Lines → Option (ℕ × Wrong)
 first_fault = faults_by part_fault is_whole
 
 -- the first fault behind the body line of an automaton, by the lines between them
-abbrev pub automaton_first_fault : List ℕ → ℕ → Lines → ℕ → Lines → Option (ℕ × ℕ)
-automaton_first_fault letters count = faults_by (automaton_fault letters count) (λ lines. nat_le 2 (length lines))
+abbrev pub automaton_first_fault : List ℕ → ℕ → Lines → ℕ → Lines → Option (ℕ × Wrong)
+automaton_first_fault letters count =
+    faults_by (automaton_fault letters count) (λ lines. nat_le 2 (length lines))
 
 -- the first fault among step lines
-abbrev pub steps_first_fault : List ℕ → ℕ → ℕ → List (List ℕ) → Option (ℕ × ℕ)
-steps_first_fault letters count = faults_by (λ _ line. step_fault letters count (fields line)) (λ _. true) []
+abbrev pub steps_first_fault : List ℕ → ℕ → ℕ → List (List ℕ) → Option (ℕ × Wrong)
+steps_first_fault letters count =
+    faults_by (λ _ line. step_fault letters count (fields line)) (λ _. true) []
 
 -- the first fault behind the body line of an expression, where nothing may stand
-abbrev pub nothing_first_fault : ℕ → List (List ℕ) → Option (ℕ × ℕ)
-nothing_first_fault = faults_by (λ _ _. Some 9) (λ _. true) []
+abbrev pub nothing_first_fault : ℕ → List (List ℕ) → Option (ℕ × Wrong)
+nothing_first_fault = faults_by (λ _ _. Some wrong.OutOfPlace) (λ _. true) []
 
--- want of memory, or the code of the test that fails
-abbrev pub IsLineFault : Option ℕ → LineFault → Type 0
-IsLineFault fault (Code code) = fault ≡ Some code
+-- want of memory, or what is wrong
+abbrev pub IsLineFault : Option Wrong → LineFault → Type 0
+IsLineFault fault (Bad found) = fault ≡ Some found
 IsLineFault fault Memory = ⊤
 
 -- want of memory stays, and each other fault of an expression is that of its line
 abbrev pub IsRaised : ExprFault → LineFault → Type 0
 IsRaised expr.Memory fault = fault ≡ Memory
-IsRaised (expr.Unexpected at) fault = fault ≡ Code 8
-IsRaised (expr.UnknownLetter at) fault = fault ≡ Code 8
-IsRaised (expr.TooDeep at) fault = fault ≡ Code 8
-IsRaised (expr.TooLarge at) fault = fault ≡ Code 8
+IsRaised (expr.Unexpected at) fault = fault ≡ Bad wrong.Expression
+IsRaised (expr.UnknownLetter at) fault = fault ≡ Bad wrong.Expression
+IsRaised (expr.TooDeep at) fault = fault ≡ Bad wrong.Expression
+IsRaised (expr.TooLarge at) fault = fault ≡ Bad wrong.Expression
 
 -- what a body line begins, over these letters
 abbrev pub IsBodyLine : List ℕ → List ℕ → BodyLine → Type 0
-IsBodyLine letters line (Expr e) = (is_expr (fields line) ≡ true) × SpellsTree (classes letters (behind_first line)) (tree_of e) × IsWithin (length letters) (tree_of e)
-IsBodyLine letters line (Nfa count) = (is_expr (fields line) ≡ false) × (state_count (fields line) ≡ count) × (1 ≤ count) × (count ≤ 1000)
+IsBodyLine letters line (Expr e) =
+    (is_expr (fields line) ≡ true) × SpellsTree (classes letters (behind_first line)) (tree_of e)
+    × IsWithin (length letters) (tree_of e)
+IsBodyLine letters line (Nfa count) =
+    (is_expr (fields line) ≡ false) × (state_count (fields line) ≡ count) × (1 ≤ count)
+    × (count ≤ most_states)
 
 abbrev pub mark_word : Mark → List ℕ
 mark_word Initial = codes "initial"
@@ -136,90 +162,99 @@ abbrev pub mark_state : Mark → Automaton → ℕ → Automaton
 mark_state Initial = with_initial
 mark_state Final = with_final
 
--- the next significant line from a place on, where no line before it has a fault
-pub record IsPart (bytes : List ℕ) (place : Place) (part : Part) : Type 0 where
-  pub skip : IsSkip (lines_from bytes place) place.number (part.text.now ∷ lines_from bytes part.next) part.number
+-- the next significant line from a cursor on, where no line before it has a fault
+pub record IsPart (cursor : Cursor) (part : Part) : Type 0 where
+  pub skip : IsSkip (lines_from cursor) cursor.number
+      (part.text.now ∷ lines_from part.next) part.number
   pub plain : is_plain part.text.now ≡ true
   pub significant : is_significant (fields part.text.now) ≡ true
   pub next : part.next.number ≡ part.number + 1
-  pub behind : IsPlace bytes part.next
-  pub onward : place.at < part.next.at
+  pub onward : left part.next < left cursor
 
--- what stands from a place on, where no line before it has a fault
-abbrev pub IsAhead : List ℕ → Place → Ahead → Type 0
-IsAhead bytes place (ahead.Part part) = IsPart bytes place part
-IsAhead bytes place (ahead.End count) = IsEndAhead bytes place.at place.number count
+-- what stands from a cursor on, where no line before it has a fault
+abbrev pub IsAhead : Cursor → Ahead → Type 0
+IsAhead cursor (ahead.Part part) = IsPart cursor part
+IsAhead cursor (ahead.End count) = IsEndAhead cursor.bytes.now cursor.at cursor.number count
 
--- the refusal of what stands from a place on, whatever stands before
-pub record IsBadPart (bytes : List ℕ) (place : Place) (refusal : Refusal) : Type 0 where
-  pub first : (test : Lines → List ℕ → Option ℕ) (whole : Lines → Bool) (earlier : Lines) → faults_by test whole earlier place.number (lines_from bytes place) ≡ Some (refusal.line, refusal.code)
+-- the refusal of what stands from a cursor on, whatever stands before
+pub record IsBadPart (cursor : Cursor) (bad : BadLine) : Type 0 where
+  pub first : (test : Lines → List ℕ → Option Wrong) (whole : Lines → Bool) (earlier : Lines)
+      → faults_by test whole earlier cursor.number (lines_from cursor) ≡ Some (bad.line, bad.wrong)
 
--- the refusal of what stands from a place on, where a part must still come
-pub record IsNoPart (bytes : List ℕ) (place : Place) (refusal : Refusal) : Type 0 where
-  pub first : (test : Lines → List ℕ → Option ℕ) (whole : Lines → Bool) (earlier : Lines) → whole earlier ≡ false → faults_by test whole earlier place.number (lines_from bytes place) ≡ Some (refusal.line, refusal.code)
+-- the refusal of what stands from a cursor on, where a part must still come
+pub record IsNoPart (cursor : Cursor) (bad : BadLine) : Type 0 where
+  pub first : (test : Lines → List ℕ → Option Wrong) (whole : Lines → Bool) (earlier : Lines)
+      → whole earlier ≡ false
+      → faults_by test whole earlier cursor.number (lines_from cursor) ≡ Some (bad.line, bad.wrong)
 
--- the refusal of what stands from a place on, where a part with this test must still come
-pub record IsRefusedPart (fault : List ℕ → Option ℕ) (bytes : List ℕ) (place : Place) (refusal : Refusal) : Type 0 where
-  pub first : (test : Lines → List ℕ → Option ℕ) (whole : Lines → Bool) (earlier : Lines) → whole earlier ≡ false → ((line : List ℕ) → test earlier line ≡ fault line) → faults_by test whole earlier place.number (lines_from bytes place) ≡ Some (refusal.line, refusal.code)
+-- the refusal of what stands from a cursor on, where a part with this test must still come
+pub record IsRefusedPart (fault : List ℕ
+    → Option Wrong) (cursor : Cursor) (bad : BadLine) : Type 0 where
+  pub first : (test : Lines → List ℕ → Option Wrong) (whole : Lines → Bool) (earlier : Lines)
+      → whole earlier ≡ false → ((line : List ℕ) → test earlier line ≡ fault line)
+      → faults_by test whole earlier cursor.number (lines_from cursor) ≡ Some (bad.line, bad.wrong)
 
 -- the same, or want of memory
-abbrev pub IsFaultyPart : (List ℕ → Option ℕ) → List ℕ → Place → FileFault → Type 0
-IsFaultyPart fault bytes place (file.Refused refusal) = IsRefusedPart fault bytes place refusal
-IsFaultyPart fault bytes place file.Memory = ⊤
+abbrev pub IsFaultyPart : (List ℕ → Option Wrong) → Cursor → ReadFault → Type 0
+IsFaultyPart fault cursor (read.Bad bad) = IsRefusedPart fault cursor bad
+IsFaultyPart fault cursor read.Memory = ⊤
 
--- this significant line is read, which comes next, and the line behind it begins at `next`
-pub record IsTaken (bytes : List ℕ) (place : Place) (line : List ℕ) (next : Place) : Type 0 where
-  pub faults : (test : Lines → List ℕ → Option ℕ) (whole : Lines → Bool) (earlier : Lines) → test earlier line ≡ None → faults_by test whole earlier place.number (lines_from bytes place) ≡ faults_by test whole (earlier ++ line ∷ []) next.number (lines_from bytes next)
-  pub parts : parts (lines_from bytes place) ≡ line ∷ parts (lines_from bytes next)
-  pub behind : IsPlace bytes next
-  pub onward : place.at < next.at
+-- this significant line is read, which comes next, and the next line begins at `next`
+pub record IsTaken (cursor : Cursor) (line : List ℕ) (next : Cursor) : Type 0 where
+  pub faults : (test : Lines → List ℕ → Option Wrong) (whole : Lines → Bool) (earlier : Lines)
+      → test earlier line ≡ None
+      → faults_by test whole earlier cursor.number (lines_from cursor) ≡ faults_by test whole
+      (earlier ++ line ∷ []) next.number (lines_from next)
+  pub parts : parts (lines_from cursor) ≡ line ∷ parts (lines_from next)
 
 -- the header line is read
-pub record IsHeaderTaken (bytes : List ℕ) (place next : Place) : Type 0 where
+pub record IsHeaderTaken (cursor next : Cursor) : Type 0 where
   pub line : List ℕ
-  pub taken : IsTaken bytes place line next
+  pub taken : IsTaken cursor line next
   pub passes : header_fault (fields line) ≡ None
 
 -- the alphabet line is read
-pub record IsAlphabetTaken (bytes : List ℕ) (place : Place) (letters : List ℕ) (next : Place) : Type 0 where
+pub record IsAlphabetTaken (cursor : Cursor) (letters : List ℕ) (next : Cursor) : Type 0 where
   pub line : List ℕ
-  pub taken : IsTaken bytes place line next
+  pub taken : IsTaken cursor line next
   pub passes : alphabet_fault (fields line) ≡ None
   pub same : letters ≡ letters_in line
   pub is_alphabet : IsAlphabet letters
 
 -- the body line is read, over these letters
-pub record IsBodyTaken (letters bytes : List ℕ) (place : Place) (body : BodyLine) (next : Place) : Type 0 where
+pub record IsBodyTaken (letters : List ℕ) (cursor : Cursor) (body : BodyLine)
+    (next : Cursor) : Type 0 where
   pub line : List ℕ
-  pub taken : IsTaken bytes place line next
+  pub taken : IsTaken cursor line next
   pub passes : body_fault letters line ≡ None
   pub begins : IsBodyLine letters line body
 
 -- a line of state numbers is read
-pub record IsMarksTaken (mark : Mark) (bytes : List ℕ) (place next : Place) (before after : Automaton) : Type 0 where
+pub record IsMarksTaken (mark : Mark) (cursor next : Cursor)
+    (before after : Automaton) : Type 0 where
   pub line : List ℕ
-  pub taken : IsTaken bytes place line next
+  pub taken : IsTaken cursor line next
   pub passes : marks_fault (mark_word mark) before.states (fields line) ≡ None
   pub marked : after ≡ with_line (mark_state mark) before (fields line)
 
 -- the refusal of a line with this number, by the test that it fails, or want of memory
-abbrev pub IsFaultAt : ℕ → Option ℕ → FileFault → Type 0
-IsFaultAt number fault (file.Refused refusal) = (refusal.line ≡ number) × (fault ≡ Some refusal.code)
-IsFaultAt number fault file.Memory = ⊤
+abbrev pub IsFaultAt : ℕ → Option Wrong → ReadFault → Type 0
+IsFaultAt number fault (read.Bad bad) = (bad.line ≡ number) × (fault ≡ Some bad.wrong)
+IsFaultAt number fault read.Memory = ⊤
 
 -- want of memory, or the refusal
-abbrev pub IsFileFault : Option (ℕ × ℕ) → FileFault → Type 0
-IsFileFault fault (file.Refused refusal) = fault ≡ Some (refusal.line, refusal.code)
-IsFileFault fault file.Memory = ⊤
+abbrev pub IsReadFault : Option (ℕ × Wrong) → ReadFault → Type 0
+IsReadFault fault (read.Bad bad) = fault ≡ Some (bad.line, bad.wrong)
+IsReadFault fault read.Memory = ⊤
 
 -- the first three parts are read, and no line has a fault so far
 pub record IsHead (bytes : List ℕ) (head : Head) : Type 0 where
   pub header : List ℕ
   pub alphabet : List ℕ
   pub body : List ℕ
-  pub place : IsPlace bytes head.next
-  pub faults : first_fault [] 1 (text_lines bytes) ≡ first_fault (header ∷ alphabet ∷ body ∷ []) head.next.number (lines_from bytes head.next)
-  pub parts : parts (text_lines bytes) ≡ header ∷ alphabet ∷ body ∷ parts (lines_from bytes head.next)
+  pub faults : first_fault [] 1 (text_lines bytes) ≡ first_fault
+      (header ∷ alphabet ∷ body ∷ []) head.next.number (lines_from head.next)
+  pub parts : parts (text_lines bytes) ≡ header ∷ alphabet ∷ body ∷ parts (lines_from head.next)
   pub letters : head.alphabet ≡ letters_in alphabet
   pub is_alphabet : IsAlphabet head.alphabet
   pub begins : IsBodyLine head.alphabet body head.body

@@ -14,8 +14,10 @@ use syn_words::{Memory, Nfa};
 /// number of letters.
 pub fn body_nfa(alloc: Global, source: &Source) -> Result<Nfa, Memory>
     requires { CanBuild (length source.now.alphabet) (body_text source.now.body) }
-    ensures automaton { IfOk result (λ m. IsBodyAutomaton (length source.now.alphabet) (body_text source.now.body) m) }
-    ensures language { IfOk result (λ m. (w : List ℕ) → Accepts m w ↔ language_of (source_text source.now) w) }
+    ensures automaton { IfOk result
+        (λ m. IsBodyAutomaton (length source.now.alphabet) (body_text source.now.body) m) }
+    ensures language { IfOk result (λ m. (w : List ℕ) → Accepts m w
+        ↔ language_of (source_text source.now) w) }
 {
     match &source.body {
         Body::Nfa(nfa) => nfa.copy(),

@@ -44,7 +44,8 @@ fn run_len(text: &[u8]) -> usize
 
 /// The first field of a line.
 pub fn first_field(text: &[u8]) -> Option<Field<'_>>
-    ensures cut { MatchOption result (fields text.now ≡ []) (λ f. fields text.now ≡ f.bytes.now ∷ fields f.rest.now) }
+    ensures cut { MatchOption result (fields text.now ≡ [])
+        (λ f. fields text.now ≡ f.bytes.now ∷ fields f.rest.now) }
     ensures behind { IfSome result (λ f. f.rest.now ≡ behind_first text.now) }
     ensures some { IfSome result (λ f. 0 < length f.bytes.now) }
     ensures shorter { IfSome result (λ f. length f.rest.now < length text.now) }

@@ -2,6 +2,8 @@
 #![tactic(auto)]
 
 mod automata;
+mod cursor;
+mod faults;
 mod fields;
 mod laws;
 mod lines;
@@ -13,9 +15,9 @@ mod tests;
 
 pub use automata::body_nfa;
 pub use laws::{
-    one_automaton, one_byte_too_many_is_enough, one_refusal, source_is_determined,
-    spelled_or_refused,
+    a_worked_file, each_line_is_its_part, each_test_says_what_must_stand, one_automaton,
+    one_byte_too_many_is_enough, one_refusal, source_is_determined, spelled_or_refused,
 };
 pub use lines::{LineGot, next_line};
 pub use reading::read_file;
-pub use sources::{Body, FileFault, Refusal, Source};
+pub use sources::{Body, FileFault, Refusal, Source, Wrong};

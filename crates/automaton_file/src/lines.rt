@@ -3,9 +3,8 @@
 ghost use Rattle.std.specs.Prelude.{◌≡◌, ◌<◌, ◌≤◌, ◌==◌, ◌+◌, length, take, drop, ◌∷◌};
 ghost use Rattle.std.specs.List.{position};
 ghost use Rattle.std.specs.Str.Lines.{strip_carriage_return};
-ghost use Rattle.automaton_file.specs.LineText.{text_lines, line_len, fields, is_allowed, is_plain, is_significant};
+ghost use Rattle.automaton_file.specs.LineText.{text_lines, line_len, fields, is_allowed, is_plain, is_significant, IsNextLine};
 ghost use Rattle.automaton_file.specs.FileText.{most_bytes};
-ghost use Rattle.automaton_file.specs.Reading.{IsNextLine};
 
 use crate::fields::first_field;
 
@@ -118,7 +117,8 @@ fn text_len(line: &[u8]) -> usize
 /// Cuts off the first line of a text that isn't empty.
 fn first_line(text: &[u8]) -> Cut
     requires { 0 < length text.now }
-    ensures first { text_lines text.now ≡ take result.text text.now ∷ text_lines (drop result.whole text.now) }
+    ensures first { text_lines text.now ≡ take result.text text.now ∷ text_lines
+        (drop result.whole text.now) }
     ensures within { result.whole ≤ length text.now }
     ensures inside { result.text ≤ result.whole }
     ensures some { 0 < result.whole }

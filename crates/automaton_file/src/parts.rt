@@ -8,48 +8,15 @@ ghost use Rattle.expression_theory.specs.Positions.{IsWithin};
 ghost use Rattle.regex_reader.specs.Expressions.{tree_of};
 ghost use Rattle.automaton_file.specs.LineText.{fields};
 ghost use Rattle.automaton_file.specs.ExprText.{is_expression};
-ghost use Rattle.automaton_file.specs.FileText.{unless, header_fault, alphabet_fault, letters_of, count_of, body_fault, is_state, marks_fault, letter_of, step_fault, with_marks, with_line, with_step_line};
-ghost use Rattle.automaton_file.specs.Reading.{IsBodyLine, mark_word, mark_state, IsLineFault};
+ghost use Rattle.automaton_file.specs.FileText.{unless, header_fault, alphabet_fault, letters_of, count_of, body_fault, is_state, marks_fault, letter_of, step_fault};
+ghost use Rattle.automaton_file.specs.Reading.{with_marks, with_line, with_step_line, IsBodyLine, mark_word, mark_state, IsLineFault};
 
+use crate::faults::LineFault;
 use crate::fields::{first_field, number_below};
-use regex_reader::{Expr, ExprFault, read_expr};
+use crate::sources::Wrong;
+use regex_reader::{Expr, read_expr};
 use std::alloc::Global;
 use syn_words::{Alphabet, AlphabetFault, Memory, Nfa};
-
-/// Why a line isn't taken.
-#[derive(Clone, Copy)]
-pub enum LineFault {
-    /// The code of the first test that it fails.
-    Code(u8),
-    Memory,
-}
-
-impl From<Memory> for LineFault {
-    ghost use Rattle.std.specs.Prelude.{◌≡◌};
-    ghost use Rattle.automaton_file.specs.declared.parts.LineFault.TheVariants.{Memory};
-
-    ghost from_gives = { λ _ fault. fault ≡ Memory };
-
-    fn from(_fault: Memory) -> LineFault {
-        LineFault::Memory
-    }
-}
-
-impl From<ExprFault> for LineFault {
-    ghost use Rattle.automaton_file.specs.Reading.{IsRaised};
-
-    ghost from_gives = { IsRaised };
-
-    fn from(fault: ExprFault) -> LineFault {
-        match fault {
-            ExprFault::Memory => LineFault::Memory,
-            ExprFault::Unexpected { .. } => LineFault::Code(8),
-            ExprFault::UnknownLetter { .. } => LineFault::Code(8),
-            ExprFault::TooDeep { .. } => LineFault::Code(8),
-            ExprFault::TooLarge { .. } => LineFault::Code(8),
-        }
-    }
-}
 
 /// The body that a body line begins.
 #[derive(Drop)]
@@ -68,7 +35,8 @@ pub enum Mark {
 
 /// The field of a line with exactly one.
 fn one_field(text: &[u8]) -> Option<&[u8]>
-    ensures { MatchOption result (length (fields text.now) ≢ 1) (λ f. fields text.now ≡ f.now ∷ []) }
+    ensures { MatchOption result (length (fields text.now) ≢ 1)
+        (λ f. fields text.now ≡ f.now ∷ []) }
 {
     let first = first_field(text)?;
     match first_field(first.rest) {
@@ -79,7 +47,8 @@ fn one_field(text: &[u8]) -> Option<&[u8]>
 
 /// The fields of a line with exactly two.
 fn two_fields(text: &[u8]) -> Option<(&[u8], &[u8])>
-    ensures { MatchOption result (length (fields text.now) ≢ 2) (λ p. fields text.now ≡ p.0.now ∷ p.1.now ∷ []) }
+    ensures { MatchOption result (length (fields text.now) ≢ 2)
+        (λ p. fields text.now ≡ p.0.now ∷ p.1.now ∷ []) }
 {
     let first = first_field(text)?;
     let second = one_field(first.rest)?;
@@ -88,26 +57,28 @@ fn two_fields(text: &[u8]) -> Option<(&[u8], &[u8])>
 
 /// The fields of a line with exactly three.
 fn three_fields(text: &[u8]) -> Option<(&[u8], &[u8], &[u8])>
-    ensures { MatchOption result (length (fields text.now) ≢ 3) (λ p. fields text.now ≡ p.0.now ∷ p.1.now ∷ p.2.now ∷ []) }
+    ensures { MatchOption result (length (fields text.now) ≢ 3)
+        (λ p. fields text.now ≡ p.0.now ∷ p.1.now ∷ p.2.now ∷ []) }
 {
     let first = first_field(text)?;
     let (second, third) = two_fields(first.rest)?;
     Some((first.bytes, second, third))
 }
 
-/// Tests the header line. The error is the code of the test that it fails.
-pub fn read_header(text: &[u8]) -> Result<(), u8>
-    ensures { MatchResult result (λ _. header_fault (fields text.now) ≡ None) (λ code. header_fault (fields text.now) ≡ Some code) }
+/// Tests the header line. The error is the test that it fails.
+pub fn read_header(text: &[u8]) -> Result<(), Wrong>
+    ensures { MatchResult result (λ _. header_fault (fields text.now) ≡ None)
+        (λ wrong. header_fault (fields text.now) ≡ Some wrong) }
 {
     match two_fields(text) {
         Some((word, version)) => {
             if word == b"synmon".as_slice() && version == b"1".as_slice() {
                 Ok(())
             } else {
-                Err(1)
+                Err(Wrong::Header)
             }
         }
-        None => Err(1),
+        None => Err(Wrong::Header),
     }
 }
 
@@ -126,7 +97,8 @@ fn joined_fields(alloc: Global, text: &[u8]) -> Result<Vec<u8>, Memory>
 
 /// The alphabet of an alphabet line.
 pub fn read_alphabet(alloc: Global, text: &[u8]) -> Result<Alphabet, LineFault>
-    ensures ok { IfOk result (λ letters. (alphabet_fault (fields text.now) ≡ None) × (letters ≡ letters_of (fields text.now)) × IsAlphabet letters) }
+    ensures ok { IfOk result (λ letters. (alphabet_fault (fields text.now) ≡ None)
+        × (letters ≡ letters_of (fields text.now)) × IsAlphabet letters) }
     ensures err { IfErr result (λ e. IsLineFault (alphabet_fault (fields text.now)) e) }
 {
     match first_field(text) {
@@ -134,11 +106,11 @@ pub fn read_alphabet(alloc: Global, text: &[u8]) -> Result<Alphabet, LineFault>
             let letters = joined_fields(alloc, word.rest)?;
             match Alphabet::from_text(alloc, letters.as_slice()) {
                 Ok(alphabet) => Ok(alphabet),
-                Err(AlphabetFault::Bad) => Err(LineFault::Code(2)),
+                Err(AlphabetFault::Bad) => Err(LineFault::Bad(Wrong::Alphabet)),
                 Err(AlphabetFault::Memory) => Err(LineFault::Memory),
             }
         }
-        _ => Err(LineFault::Code(2)),
+        _ => Err(LineFault::Bad(Wrong::Alphabet)),
     }
 }
 
@@ -157,7 +129,8 @@ fn read_expression(alloc: Global, alphabet: &Alphabet, text: &[u8]) -> Result<Ex
     ensures accepted { OnOk result (is_expression alphabet.now text.now ≡ true) }
     ensures spells { IfOk result (λ e. SpellsTree (classes alphabet.now text.now) (tree_of e)) }
     ensures within { IfOk result (λ e. IsWithin (length alphabet.now) (tree_of e)) }
-    ensures err { IfErr result (IsLineFault (unless (is_expression alphabet.now text.now) 8)) }
+    ensures err { IfErr result
+        (IsLineFault (unless (is_expression alphabet.now text.now) Wrong.Expression)) }
 {
     let expr = read_expr(alloc, text, alphabet)?;
     Ok(expr)
@@ -165,22 +138,23 @@ fn read_expression(alloc: Global, alphabet: &Alphabet, text: &[u8]) -> Result<Ex
 
 /// What a body line begins.
 pub fn read_body(alloc: Global, alphabet: &Alphabet, text: &[u8]) -> Result<BodyLine, LineFault>
-    ensures ok { IfOk result (λ body. (body_fault alphabet.now text.now ≡ None) × IsBodyLine alphabet.now text.now body) }
+    ensures ok { IfOk result (λ body. (body_fault alphabet.now text.now ≡ None)
+        × IsBodyLine alphabet.now text.now body) }
     ensures err { IfErr result (IsLineFault (body_fault alphabet.now text.now)) }
 {
     let Some(word) = first_field(text) else {
-        return Err(LineFault::Code(3));
+        return Err(LineFault::Bad(Wrong::Body));
     };
     if word.bytes == b"expr".as_slice() {
         let expr = read_expression(alloc, alphabet, word.rest)?;
         return Ok(BodyLine::Expr(expr));
     }
     if word.bytes != b"nfa".as_slice() {
-        return Err(LineFault::Code(3));
+        return Err(LineFault::Bad(Wrong::Body));
     }
     let count = read_count(word.rest);
     if count == 0 {
-        return Err(LineFault::Code(4));
+        return Err(LineFault::Bad(Wrong::Count));
     }
     Ok(BodyLine::Nfa(count))
 }
@@ -206,10 +180,13 @@ fn mark_state(mark: Mark, nfa: &mut Nfa, state: u32)
     }
 }
 
-/// Marks each state whose number the text spells. The error is the code of a field that is no state number.
-fn mark_states(mark: Mark, nfa: &mut Nfa, text: &[u8]) -> Result<(), u8>
-    ensures ok { OnOk result ((list_all (is_state nfa.old.states) (fields text.now) ≡ true) × (nfa.new ≡ with_marks (mark_state mark) nfa.old (fields text.now))) }
-    ensures err { IfErr result (λ code. (list_all (is_state nfa.old.states) (fields text.now) ≡ false) × (code ≡ 5)) }
+/// Marks each state whose number the text spells. The error is that a field is no state number.
+fn mark_states(mark: Mark, nfa: &mut Nfa, text: &[u8]) -> Result<(), Wrong>
+    ensures ok { OnOk result ((list_all (is_state nfa.old.states) (fields text.now) ≡ true)
+        × (nfa.new ≡ with_marks (mark_state mark) nfa.old (fields text.now))) }
+    ensures err { IfErr result
+        (λ wrong. (list_all (is_state nfa.old.states) (fields text.now) ≡ false)
+        × (wrong ≡ Wrong.State)) }
     ensures states { nfa.new.states ≡ nfa.old.states }
     ensures letters { nfa.new.letters ≡ nfa.old.letters }
 {
@@ -217,7 +194,7 @@ fn mark_states(mark: Mark, nfa: &mut Nfa, text: &[u8]) -> Result<(), u8>
     let mut rest = text;
     'fields: while let Some(field) = first_field(rest) {
         let Some(state) = number_below(states, field.bytes) else {
-            return Err(5);
+            return Err(Wrong::State);
         };
         mark_state(mark, nfa, state);
         rest = field.rest;
@@ -225,18 +202,21 @@ fn mark_states(mark: Mark, nfa: &mut Nfa, text: &[u8]) -> Result<(), u8>
     Ok(())
 }
 
-/// Marks the states of a line `initial` or `final`. The error is the code of the first test that the line fails.
-pub fn read_marks(mark: Mark, nfa: &mut Nfa, text: &[u8]) -> Result<(), u8>
-    ensures ok { OnOk result ((marks_fault (mark_word mark) nfa.old.states (fields text.now) ≡ None) × (nfa.new ≡ with_line (mark_state mark) nfa.old (fields text.now))) }
-    ensures err { IfErr result (λ code. marks_fault (mark_word mark) nfa.old.states (fields text.now) ≡ Some code) }
+/// Marks the states of a line `initial` or `final`. The error is the first test that the line fails.
+pub fn read_marks(mark: Mark, nfa: &mut Nfa, text: &[u8]) -> Result<(), Wrong>
+    ensures ok { OnOk result
+        ((marks_fault (mark_word mark) nfa.old.states (fields text.now) ≡ None)
+        × (nfa.new ≡ with_line (mark_state mark) nfa.old (fields text.now))) }
+    ensures err { IfErr result
+        (λ wrong. marks_fault (mark_word mark) nfa.old.states (fields text.now) ≡ Some wrong) }
     ensures states { nfa.new.states ≡ nfa.old.states }
     ensures letters { nfa.new.letters ≡ nfa.old.letters }
 {
     let Some(word) = first_field(text) else {
-        return Err(7);
+        return Err(Wrong::Missing);
     };
     if word.bytes != word_of(mark) {
-        return Err(7);
+        return Err(Wrong::Missing);
     }
     mark_states(mark, nfa, word.rest)
 }
@@ -256,23 +236,25 @@ fn read_letter(alphabet: &Alphabet, field: &[u8]) -> Option<u8>
 pub fn read_step(alphabet: &Alphabet, nfa: &mut Nfa, text: &[u8]) -> Result<(), LineFault>
     requires alphabet { IsAlphabet alphabet.now }
     requires letters { nfa.old.letters ≡ length alphabet.now }
-    ensures ok { OnOk result ((step_fault alphabet.now nfa.old.states (fields text.now) ≡ None) × (nfa.new ≡ with_step_line alphabet.now nfa.old (fields text.now))) }
-    ensures err { IfErr result (λ e. IsLineFault (step_fault alphabet.now nfa.old.states (fields text.now)) e) }
+    ensures ok { OnOk result ((step_fault alphabet.now nfa.old.states (fields text.now) ≡ None)
+        × (nfa.new ≡ with_step_line alphabet.now nfa.old (fields text.now))) }
+    ensures err { IfErr result
+        (λ e. IsLineFault (step_fault alphabet.now nfa.old.states (fields text.now)) e) }
     ensures states { nfa.new.states ≡ nfa.old.states }
     ensures same_letters { nfa.new.letters ≡ nfa.old.letters }
 {
     let Some((from, letter, to)) = three_fields(text) else {
-        return Err(LineFault::Code(9));
+        return Err(LineFault::Bad(Wrong::OutOfPlace));
     };
     let states = nfa.states();
     let Some(from) = number_below(states, from) else {
-        return Err(LineFault::Code(5));
+        return Err(LineFault::Bad(Wrong::State));
     };
     let Some(letter) = read_letter(alphabet, letter) else {
-        return Err(LineFault::Code(6));
+        return Err(LineFault::Bad(Wrong::Letter));
     };
     let Some(to) = number_below(states, to) else {
-        return Err(LineFault::Code(5));
+        return Err(LineFault::Bad(Wrong::State));
     };
     nfa.add_step(from, letter, to)?;
     Ok(())

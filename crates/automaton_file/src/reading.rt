@@ -4,36 +4,27 @@ ghost use Rattle.std.specs.Prelude.{◌≡◌, ◌≤◌, None, Some, true, fals
 ghost use Rattle.syn_words.specs.Alphabet.{IsAlphabet};
 ghost use Rattle.syn_words.specs.Nfa.{bare};
 ghost use Rattle.automaton_file.specs.LineText.{text_lines, fields, parts};
-ghost use Rattle.automaton_file.specs.FileText.{most_bytes, header_fault, alphabet_fault, body_fault, marks_fault, step_fault, with_step_line, automaton_of, with_step_lines, source_text, body_text, SpellsSource, CanBuild, IsSource, IsSoundSource, IsFileRefusal};
-ghost use Rattle.automaton_file.specs.Reading.{IsPlace, lines_from, IsPart, IsAhead, IsBadPart, IsNoPart, IsRefusedPart, IsFaultyPart, IsHeaderTaken, IsAlphabetTaken, IsBodyTaken, IsMarksTaken, mark_word, IsFileFault, IsFaultAt, IsHead, first_fault, automaton_first_fault, steps_first_fault, nothing_first_fault};
+ghost use Rattle.automaton_file.specs.Parts.{most_states};
+ghost use Rattle.automaton_file.specs.FileText.{most_bytes, code_of, header_fault, alphabet_fault, body_fault, marks_fault, step_fault, source_text, body_text, CanBuild, IsSource, IsSoundSource, IsFileRefusal};
+ghost use Rattle.automaton_file.specs.Reading.{with_step_line, automaton_of, with_step_lines, ReadsSource, lines_from, IsPart, IsAhead, IsBadPart, IsNoPart, IsRefusedPart, IsFaultyPart, IsHeaderTaken, IsAlphabetTaken, IsBodyTaken, IsMarksTaken, mark_word, IsReadFault, IsFaultAt, IsHead, first_fault, automaton_first_fault, steps_first_fault, nothing_first_fault};
 
+use crate::cursor::Cursor;
+use crate::faults::{BadLine, LineFault, ReadFault};
 use crate::lines::{LineGot, next_line};
-use crate::parts::{
-    BodyLine, LineFault, Mark, read_alphabet, read_body, read_header, read_marks, read_step,
-};
-use crate::sources::{Body, FileFault, Refusal, Source};
+use crate::parts::{BodyLine, Mark, read_alphabet, read_body, read_header, read_marks, read_step};
+use crate::sources::{Body, FileFault, Refusal, Source, Wrong};
 use std::alloc::Global;
 use syn_words::{Alphabet, Nfa};
 
 /// The most bytes that a file may have.
 const MOST_BYTES: usize = 1_048_576;
 
-/// The refusal of an input with more bytes.
-const TOO_LONG: Refusal = Refusal { line: 0, code: 11 };
-
-/// Where a line begins, and its number.
-#[derive(Clone, Copy)]
-pub struct Place {
-    pub at: u32,
-    pub number: u32,
-}
-
 /// A significant line: its number, its bytes, and where the next line begins.
 #[derive(Clone, Copy)]
 pub struct Part<'a> {
     pub number: u32,
     pub text: &'a [u8],
-    pub next: Place,
+    pub next: Cursor<'a>,
 }
 
 /// What comes next in a file.
@@ -46,162 +37,161 @@ pub enum Ahead<'a> {
 
 /// What the first three parts of a file say.
 #[derive(Drop)]
-struct Head {
+struct Head<'a> {
     alphabet: Alphabet,
     body: BodyLine,
-    next: Place,
+    next: Cursor<'a>,
 }
 
 /// The next significant line, if there is one.
-fn look_ahead(bytes: &[u8], place: Place) -> Result<Ahead<'_>, Refusal>
-    requires short { length bytes.now ≤ most_bytes }
-    requires place { IsPlace bytes.now place }
-    ensures ok { IfOk result (IsAhead bytes.now place) }
-    ensures err { IfErr result (IsBadPart bytes.now place) }
+fn look_ahead(cursor: Cursor<'_>) -> Result<Ahead<'_>, BadLine>
+    ensures ok { IfOk result (IsAhead cursor.entry) }
+    ensures err { IfErr result (IsBadPart cursor.entry) }
 {
-    match next_line(bytes, place.at, place.number) {
+    match next_line(cursor.bytes, cursor.at, cursor.number) {
         LineGot::Line {
             number,
             from,
             to,
             next,
         } => {
-            let text = &bytes[from as usize..to as usize];
-            let next = Place {
+            let text = &cursor.bytes[from as usize..to as usize];
+            let next = Cursor {
+                bytes: cursor.bytes,
                 at: next,
                 number: number + 1,
             };
             Ok(Ahead::Part(Part { number, text, next }))
         }
-        LineGot::BadByte { number } => Err(Refusal {
+        LineGot::BadByte { number } => Err(BadLine {
             line: number,
-            code: 10,
+            wrong: Wrong::Byte,
         }),
         LineGot::End { lines } => Ok(Ahead::End { lines }),
     }
 }
 
 /// The next significant line, which must still come.
-fn next_part(bytes: &[u8], place: Place) -> Result<Part<'_>, Refusal>
-    requires short { length bytes.now ≤ most_bytes }
-    requires place { IsPlace bytes.now place }
-    ensures ok { IfOk result (IsPart bytes.now place) }
-    ensures err { IfErr result (IsNoPart bytes.now place) }
+fn next_part(cursor: Cursor<'_>) -> Result<Part<'_>, BadLine>
+    ensures ok { IfOk result (IsPart cursor.entry) }
+    ensures err { IfErr result (IsNoPart cursor.entry) }
 {
-    match look_ahead(bytes, place)? {
+    match look_ahead(cursor)? {
         Ahead::Part(part) => Ok(part),
-        Ahead::End { lines } => Err(Refusal {
+        Ahead::End { lines } => Err(BadLine {
             line: lines + 1,
-            code: 7,
+            wrong: Wrong::Missing,
         }),
     }
 }
 
 /// Reads the header line.
-fn take_header(bytes: &[u8], place: Place) -> Result<Place, Refusal>
-    requires short { length bytes.now ≤ most_bytes }
-    requires place { IsPlace bytes.now place }
-    ensures ok { IfOk result (IsHeaderTaken bytes.now place) }
-    ensures err { IfErr result (IsRefusedPart (λ line. header_fault (fields line)) bytes.now place) }
+fn take_header(cursor: Cursor<'_>) -> Result<Cursor<'_>, BadLine>
+    ensures ok { IfOk result (IsHeaderTaken cursor.entry) }
+    ensures err { IfErr result (IsRefusedPart (λ line. header_fault (fields line)) cursor.entry) }
 {
-    let part = next_part(bytes, place)?;
+    let part = next_part(cursor)?;
     match read_header(part.text) {
         Ok(()) => Ok(part.next),
-        Err(code) => Err(Refusal {
+        Err(wrong) => Err(BadLine {
             line: part.number,
-            code,
+            wrong,
         }),
     }
 }
 
 /// Reads the alphabet line.
-fn take_alphabet(alloc: Global, bytes: &[u8], place: Place) -> Result<(Alphabet, Place), FileFault>
-    requires short { length bytes.now ≤ most_bytes }
-    requires place { IsPlace bytes.now place }
-    ensures ok { IfOk result (λ r. IsAlphabetTaken bytes.now place r.0 r.1) }
-    ensures err { IfErr result (IsFaultyPart (λ line. alphabet_fault (fields line)) bytes.now place) }
+fn take_alphabet(alloc: Global, cursor: Cursor<'_>) -> Result<(Alphabet, Cursor<'_>), ReadFault>
+    ensures ok { IfOk result (λ r. IsAlphabetTaken cursor.entry r.0 r.1) }
+    ensures err { IfErr result (IsFaultyPart (λ line. alphabet_fault (fields line)) cursor.entry) }
 {
-    let part = next_part(bytes, place)?;
+    let part = next_part(cursor)?;
     match read_alphabet(alloc, part.text) {
         Ok(alphabet) => Ok((alphabet, part.next)),
-        Err(LineFault::Code(code)) => Err(FileFault::Refused(Refusal {
+        Err(LineFault::Bad(wrong)) => Err(ReadFault::Bad(BadLine {
             line: part.number,
-            code,
+            wrong,
         })),
-        Err(LineFault::Memory) => Err(FileFault::Memory),
+        Err(LineFault::Memory) => Err(ReadFault::Memory),
     }
 }
 
 /// Reads the body line.
-fn take_body(
+fn take_body<'a>(
     alloc: Global,
     alphabet: &Alphabet,
-    bytes: &[u8],
-    place: Place,
-) -> Result<(BodyLine, Place), FileFault>
-    requires short { length bytes.now ≤ most_bytes }
-    requires place { IsPlace bytes.now place }
-    ensures ok { IfOk result (λ r. IsBodyTaken alphabet.now bytes.now place r.0 r.1) }
-    ensures err { IfErr result (IsFaultyPart (body_fault alphabet.now) bytes.now place) }
+    cursor: Cursor<'a>,
+) -> Result<(BodyLine, Cursor<'a>), ReadFault>
+    ensures ok { IfOk result (λ r. IsBodyTaken alphabet.now cursor.entry r.0 r.1) }
+    ensures err { IfErr result (IsFaultyPart (body_fault alphabet.now) cursor.entry) }
 {
-    let part = next_part(bytes, place)?;
+    let part = next_part(cursor)?;
     match read_body(alloc, alphabet, part.text) {
         Ok(body) => Ok((body, part.next)),
-        Err(LineFault::Code(code)) => Err(FileFault::Refused(Refusal {
+        Err(LineFault::Bad(wrong)) => Err(ReadFault::Bad(BadLine {
             line: part.number,
-            code,
+            wrong,
         })),
-        Err(LineFault::Memory) => Err(FileFault::Memory),
+        Err(LineFault::Memory) => Err(ReadFault::Memory),
     }
 }
 
 /// Reads a line `initial` or `final`, and marks its states.
-fn take_marks(mark: Mark, nfa: &mut Nfa, bytes: &[u8], place: Place) -> Result<Place, Refusal>
-    requires short { length bytes.now ≤ most_bytes }
-    requires place { IsPlace bytes.now place }
-    ensures ok { IfOk result (λ next. IsMarksTaken mark bytes.now place next nfa.old nfa.new) }
-    ensures err { IfErr result (IsRefusedPart (λ line. marks_fault (mark_word mark) nfa.old.states (fields line)) bytes.now place) }
+fn take_marks<'a>(mark: Mark, nfa: &mut Nfa, cursor: Cursor<'a>) -> Result<Cursor<'a>, BadLine>
+    ensures ok { IfOk result (λ next. IsMarksTaken mark cursor.entry next nfa.old nfa.new) }
+    ensures err { IfErr result
+        (IsRefusedPart
+        (λ line. marks_fault (mark_word mark) nfa.old.states (fields line)) cursor.entry) }
     ensures states { nfa.new.states ≡ nfa.old.states }
     ensures letters { nfa.new.letters ≡ nfa.old.letters }
 {
-    let part = next_part(bytes, place)?;
+    let part = next_part(cursor)?;
     match read_marks(mark, nfa, part.text) {
         Ok(()) => Ok(part.next),
-        Err(code) => Err(Refusal {
+        Err(wrong) => Err(BadLine {
             line: part.number,
-            code,
+            wrong,
         }),
     }
 }
 
 /// Reads a step line that comes next, and adds its step.
-fn take_step(alphabet: &Alphabet, nfa: &mut Nfa, part: &Part<'_>) -> Result<(), FileFault>
+fn take_step(alphabet: &Alphabet, nfa: &mut Nfa, part: &Part<'_>) -> Result<(), ReadFault>
     requires alphabet { IsAlphabet alphabet.now }
     requires letters { nfa.old.letters ≡ length alphabet.now }
-    ensures ok { OnOk result ((step_fault alphabet.now nfa.old.states (fields part.now.text.now) ≡ None) × (nfa.new ≡ with_step_line alphabet.now nfa.old (fields part.now.text.now))) }
-    ensures err { IfErr result (IsFaultAt part.now.number (step_fault alphabet.now nfa.old.states (fields part.now.text.now))) }
+    ensures ok { OnOk result
+        ((step_fault alphabet.now nfa.old.states (fields part.now.text.now) ≡ None)
+        × (nfa.new ≡ with_step_line alphabet.now nfa.old (fields part.now.text.now))) }
+    ensures err { IfErr result
+        (IsFaultAt part.now.number
+        (step_fault alphabet.now nfa.old.states (fields part.now.text.now))) }
     ensures states { nfa.new.states ≡ nfa.old.states }
     ensures same_letters { nfa.new.letters ≡ nfa.old.letters }
 {
     match read_step(alphabet, nfa, part.text) {
         Ok(()) => Ok(()),
-        Err(LineFault::Code(code)) => Err(FileFault::Refused(Refusal {
+        Err(LineFault::Bad(wrong)) => Err(ReadFault::Bad(BadLine {
             line: part.number,
-            code,
+            wrong,
         })),
-        Err(LineFault::Memory) => Err(FileFault::Memory),
+        Err(LineFault::Memory) => Err(ReadFault::Memory),
     }
 }
 
 /// Reads the first three parts.
-fn read_head(alloc: Global, bytes: &[u8]) -> Result<Head, FileFault>
+fn read_head(alloc: Global, bytes: &[u8]) -> Result<Head<'_>, ReadFault>
     requires { length bytes.now ≤ most_bytes }
     ensures ok { IfOk result (IsHead bytes.now) }
-    ensures err { IfErr result (IsFileFault (first_fault [] 1 (text_lines bytes.now))) }
+    ensures err { IfErr result (IsReadFault (first_fault [] 1 (text_lines bytes.now))) }
 {
-    let next = take_header(bytes, Place { at: 0, number: 1 })?;
-    let (alphabet, next) = take_alphabet(alloc, bytes, next)?;
-    let (body, next) = take_body(alloc, &alphabet, bytes, next)?;
+    let start = Cursor {
+        bytes,
+        at: 0,
+        number: 1,
+    };
+    let next = take_header(start)?;
+    let (alphabet, next) = take_alphabet(alloc, next)?;
+    let (body, next) = take_body(alloc, &alphabet, next)?;
     Ok(Head {
         alphabet,
         body,
@@ -210,23 +200,22 @@ fn read_head(alloc: Global, bytes: &[u8]) -> Result<Head, FileFault>
 }
 
 /// Reads the lines of steps, which come last.
-fn read_steps(
-    bytes: &[u8],
-    place: Place,
-    alphabet: &Alphabet,
-    nfa: &mut Nfa,
-) -> Result<(), FileFault>
-    requires short { length bytes.now ≤ most_bytes }
-    requires place { IsPlace bytes.now place }
+fn read_steps(cursor: Cursor<'_>, alphabet: &Alphabet, nfa: &mut Nfa) -> Result<(), ReadFault>
     requires alphabet { IsAlphabet alphabet.now }
     requires letters { nfa.old.letters ≡ length alphabet.now }
-    ensures ok { OnOk result ((steps_first_fault alphabet.now nfa.old.states place.number (lines_from bytes.now place) ≡ None) × (nfa.new ≡ with_step_lines alphabet.now nfa.old (parts (lines_from bytes.now place)))) }
-    ensures err { IfErr result (IsFileFault (steps_first_fault alphabet.now nfa.old.states place.number (lines_from bytes.now place))) }
+    ensures ok { OnOk result
+        ((steps_first_fault alphabet.now nfa.old.states cursor.entry.number
+        (lines_from cursor.entry) ≡ None)
+        × (nfa.new ≡ with_step_lines alphabet.now nfa.old (parts (lines_from cursor.entry)))) }
+    ensures err { IfErr result
+        (IsReadFault
+        (steps_first_fault alphabet.now nfa.old.states cursor.entry.number
+        (lines_from cursor.entry))) }
     ensures states { nfa.new.states ≡ nfa.old.states }
     ensures same_letters { nfa.new.letters ≡ nfa.old.letters }
 {
-    let mut ahead = place;
-    'lines: while let Ahead::Part(part) = look_ahead(bytes, ahead)? {
+    let mut ahead = cursor;
+    'lines: while let Ahead::Part(part) = look_ahead(ahead)? {
         take_step(alphabet, nfa, &part)?;
         ahead = part.next;
     }
@@ -236,51 +225,56 @@ fn read_steps(
 /// Reads what follows the body line of an automaton.
 fn read_nfa(
     alloc: Global,
-    bytes: &[u8],
-    place: Place,
+    cursor: Cursor<'_>,
     alphabet: &Alphabet,
     count: u32,
-) -> Result<Nfa, FileFault>
-    requires short { length bytes.now ≤ most_bytes }
-    requires place { IsPlace bytes.now place }
+) -> Result<Nfa, ReadFault>
     requires alphabet { IsAlphabet alphabet.now }
     requires some { 1 ≤ count }
-    requires few { count ≤ 1000 }
-    ensures ok { IfOk result (λ m. (automaton_first_fault alphabet.now count [] place.number (lines_from bytes.now place) ≡ None) × (m ≡ automaton_of alphabet.now (bare count (length alphabet.now)) (parts (lines_from bytes.now place)))) }
-    ensures err { IfErr result (IsFileFault (automaton_first_fault alphabet.now count [] place.number (lines_from bytes.now place))) }
+    requires few { count ≤ most_states }
+    ensures ok { IfOk result
+        (λ m. (automaton_first_fault alphabet.now count [] cursor.entry.number
+        (lines_from cursor.entry) ≡ None)
+        × (m ≡ automaton_of alphabet.now (bare count (length alphabet.now))
+        (parts (lines_from cursor.entry)))) }
+    ensures err { IfErr result
+        (IsReadFault
+        (automaton_first_fault alphabet.now count [] cursor.entry.number
+        (lines_from cursor.entry))) }
     ensures states { IfOk result (λ m. m.states ≡ count) }
     ensures letters { IfOk result (λ m. m.letters ≡ length alphabet.now) }
 {
     let mut nfa = Nfa::new(alloc, count, alphabet.len())?;
-    let next = take_marks(Mark::Initial, &mut nfa, bytes, place)?;
-    let next = take_marks(Mark::Final, &mut nfa, bytes, next)?;
-    read_steps(bytes, next, alphabet, &mut nfa)?;
+    let next = take_marks(Mark::Initial, &mut nfa, cursor)?;
+    let next = take_marks(Mark::Final, &mut nfa, next)?;
+    read_steps(next, alphabet, &mut nfa)?;
     Ok(nfa)
 }
 
 /// Reads what follows the body line of an expression, where no significant line may stand.
-fn read_nothing(bytes: &[u8], place: Place) -> Result<(), Refusal>
-    requires short { length bytes.now ≤ most_bytes }
-    requires place { IsPlace bytes.now place }
-    ensures ok { OnOk result (nothing_first_fault place.number (lines_from bytes.now place) ≡ None) }
-    ensures err { IfErr result (λ r. nothing_first_fault place.number (lines_from bytes.now place) ≡ Some (r.line, r.code)) }
+fn read_nothing(cursor: Cursor<'_>) -> Result<(), BadLine>
+    ensures ok { OnOk result
+        (nothing_first_fault cursor.entry.number (lines_from cursor.entry) ≡ None) }
+    ensures err { IfErr result
+        (λ r. nothing_first_fault cursor.entry.number (lines_from cursor.entry) ≡ Some
+        (r.line, r.wrong)) }
 {
-    let ahead = look_ahead(bytes, place)?;
+    let ahead = look_ahead(cursor)?;
     match ahead {
-        Ahead::Part(part) => Err(Refusal {
+        Ahead::Part(part) => Err(BadLine {
             line: part.number,
-            code: 9,
+            wrong: Wrong::OutOfPlace,
         }),
         Ahead::End { .. } => Ok(()),
     }
 }
 
 /// Reads a source.
-fn read_source(alloc: Global, bytes: &[u8]) -> Result<Source, FileFault>
+fn read_source(alloc: Global, bytes: &[u8]) -> Result<Source, ReadFault>
     requires { length bytes.now ≤ most_bytes }
     ensures spelled { OnOk result (first_fault [] 1 (text_lines bytes.now) ≡ None) }
-    ensures source { IfOk result (λ s. SpellsSource (parts (text_lines bytes.now)) (source_text s)) }
-    ensures err { IfErr result (IsFileFault (first_fault [] 1 (text_lines bytes.now))) }
+    ensures source { IfOk result (λ s. ReadsSource (parts (text_lines bytes.now)) (source_text s)) }
+    ensures err { IfErr result (IsReadFault (first_fault [] 1 (text_lines bytes.now))) }
     ensures sound { IfOk result (λ s. IsSoundSource (source_text s)) }
     ensures buildable { IfOk result (λ s. CanBuild (length s.alphabet) (body_text s.body)) }
 {
@@ -291,20 +285,28 @@ fn read_source(alloc: Global, bytes: &[u8]) -> Result<Source, FileFault>
     } = read_head(alloc, bytes)?;
     match body {
         BodyLine::Expr(expr) => {
-            read_nothing(bytes, next)?;
+            read_nothing(next)?;
             Ok(Source {
                 alphabet,
                 body: Body::Expr(expr),
             })
         }
         BodyLine::Nfa(count) => {
-            let nfa = read_nfa(alloc, bytes, next, &alphabet, count)?;
+            let nfa = read_nfa(alloc, next, &alphabet, count)?;
             Ok(Source {
                 alphabet,
                 body: Body::Nfa(nfa),
             })
         }
     }
+}
+
+/// The refusal of a file for this line.
+fn refused(line: u32, wrong: Wrong) -> FileFault
+    ensures { result ≡ FileFault.Refused (record { line = line; code = code_of wrong }) }
+{
+    let code = wrong.code();
+    FileFault::Refused(Refusal { line, code })
 }
 
 /// Reads a file: the source that it spells. A text that spells none is refused with a line and a code.
@@ -316,8 +318,11 @@ pub fn read_file(alloc: Global, bytes: &[u8]) -> Result<Source, FileFault>
     ensures refused { IfErr result (IsFileRefusal bytes.now) }
 {
     if bytes.len() > MOST_BYTES {
-        return Err(FileFault::Refused(TOO_LONG));
+        return Err(refused(0, Wrong::TooLong));
     }
-    let source = read_source(alloc, bytes)?;
-    Ok(source)
+    match read_source(alloc, bytes) {
+        Ok(source) => Ok(source),
+        Err(ReadFault::Bad(bad)) => Err(refused(bad.line, bad.wrong)),
+        Err(ReadFault::Memory) => Err(FileFault::Memory),
+    }
 }

@@ -1,4 +1,5 @@
--- What can begin, follow and end, computed on the tree. A `Cat` with a part without words gives nothing.
+-- What can begin, follow and end, computed on the tree. A `Cat` with a part without words gives
+-- nothing.
 use Rattle.std.specs.Prelude.{ℕ, Bool, true, false, cond, ◌&&◌, ◌||◌, ◌==◌, List, [], ◌∷◌, ◌++◌}
 use Rattle.std.specs.List.{list_any}
 use Rattle.expression_theory.specs.Expression.{Tree, Zero, One, Letter, Or, Cat, Star, Plus, Opt}
@@ -57,7 +58,9 @@ follows Zero p q = false
 follows One p q = false
 follows (Letter a) p q = false
 follows (Or s t) p q = follows s p q || follows t p q
-follows (Cat s t) p q = (has_word s && has_word t) && ((follows s p q || follows t p q) || (has (lasts s) p && has (firsts t) q))
+follows (Cat s t) p q =
+    (has_word s && has_word t)
+    && ((follows s p q || follows t p q) || (has (lasts s) p && has (firsts t) q))
 follows (Star t) p q = follows t p q || (has (lasts t) p && has (firsts t) q)
 follows (Plus t) p q = follows t p q || (has (lasts t) p && has (firsts t) q)
 follows (Opt t) p q = follows t p q

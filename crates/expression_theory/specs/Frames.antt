@@ -3,7 +3,8 @@ use Rattle.std.specs.Prelude.{Option, Some, None, List, [], ◌∷◌}
 use Rattle.expression_theory.specs.Expression.{Tree, Or, Cat}
 use Rattle.expression_theory.specs.Grammar.{leaf_tree, applied, Sign, Operand, Bar, Postfix, Open, Close}
 
--- the union before the last `|`, the sequence before the last piece, and the last piece, as far as there is any
+-- the union before the last `|`, the sequence before the last piece, and the last piece, as far
+-- as there is any
 pub data Frame : Type 0 where
   frame : (alternatives sequence piece : Option Tree) → Frame
 

@@ -41,14 +41,19 @@ pub data Level : Type 0 where
   Sequence : Level
   Union : Level
 
--- A union is a sequence, or a union, `|` and a sequence. A sequence is a piece, or a sequence and a piece.
--- A piece is an atom, or a piece and a postfix sign. An atom is a letter, `0`, `1`, or a union in parentheses.
+-- A union is a sequence, or a union, `|` and a sequence. A sequence is a piece, or a sequence
+-- and a piece.
+-- A piece is an atom, or a piece and a postfix sign. An atom is a letter, `0`, `1`, or a union
+-- in parentheses.
 pub data Spells : Level → List Sign → Tree → Type 0 where
   operand : {x : Leaf} → Spells Atom (Operand x ∷ []) (leaf_tree x)
   inside : {w : List Sign} {t : Tree} → Spells Union w t → Spells Atom (Open ∷ (w ++ Close ∷ [])) t
   atom : {w : List Sign} {t : Tree} → Spells Atom w t → Spells Piece w t
-  postfix : {w : List Sign} {t : Tree} (m : Quantifier) → Spells Piece w t → Spells Piece (w ++ Postfix m ∷ []) (applied m t)
+  postfix : {w : List Sign} {t : Tree} (m : Quantifier) → Spells Piece w t
+      → Spells Piece (w ++ Postfix m ∷ []) (applied m t)
   one_piece : {w : List Sign} {t : Tree} → Spells Piece w t → Spells Sequence w t
-  next_piece : {u v : List Sign} {s t : Tree} → Spells Sequence u s → Spells Piece v t → Spells Sequence (u ++ v) (Cat s t)
+  next_piece : {u v : List Sign} {s t : Tree} → Spells Sequence u s → Spells Piece v t
+      → Spells Sequence (u ++ v) (Cat s t)
   one_sequence : {w : List Sign} {t : Tree} → Spells Sequence w t → Spells Union w t
-  next_sequence : {u v : List Sign} {s t : Tree} → Spells Union u s → Spells Sequence v t → Spells Union (u ++ Bar ∷ v) (Or s t)
+  next_sequence : {u v : List Sign} {s t : Tree} → Spells Union u s → Spells Sequence v t
+      → Spells Union (u ++ Bar ∷ v) (Or s t)

@@ -78,4 +78,5 @@ signs_among (t ∷ ts) = length (signs t) + signs_among ts
 -- whether q can follow p in a word of one of the trees, whose signs are numbered from n on
 abbrev pub follows_among : ℕ → List Tree → ℕ → ℕ → Bool
 follows_among n [] p q = false
-follows_among n (t ∷ ts) p q = follows (numbered n t) p q || follows_among (n + length (signs t)) ts p q
+follows_among n (t ∷ ts) p q =
+    follows (numbered n t) p q || follows_among (n + length (signs t)) ts p q

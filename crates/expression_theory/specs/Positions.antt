@@ -1,4 +1,5 @@
--- The position automaton of an expression (Glushkov). Its letter signs are numbered from 1, from the left.
+-- The position automaton of an expression (Glushkov). Its letter signs are numbered from 1, from
+-- the left.
 use Rattle.std.specs.Prelude.{◌≡◌, ℕ, zero, suc, ◌+◌, ◌-◌, ◌<◌, ◌≤◌, IsTrue, ◌↔◌, List, [], ◌∷◌, ◌++◌, length, slice_index, All}
 use Rattle.language_theory.specs.Automaton.{Automaton, is_initial, is_final, has_step}
 use Rattle.expression_theory.specs.Expression.{Tree, Zero, One, Letter, Or, Cat, Star, Plus, Opt, Means, nodes}
@@ -45,7 +46,8 @@ Ends L p = (u : List ℕ) × L (u ++ p ∷ [])
 abbrev pub letter_of : Tree → ℕ → ℕ
 letter_of t p = slice_index (signs t) (p - 1)
 
--- a step leads from a state to a sign: from 0 to those that can begin a word, from a sign to those that can follow it
+-- a step leads from a state to a sign: from 0 to those that can begin a word, from a sign to
+-- those that can follow it
 abbrev pub StepsTo : Tree → ℕ → ℕ → Type 0
 StepsTo t zero q = Begins (SignWord t) q
 StepsTo t (suc p) q = Follows (SignWord t) (suc p) q
@@ -55,7 +57,8 @@ abbrev pub IsFinalPosition : Tree → ℕ → Type 0
 IsFinalPosition t zero = Means t []
 IsFinalPosition t (suc p) = Ends (SignWord t) (suc p)
 
--- m is the position automaton over k letters: state 0 is the only initial one, and state i is the i-th sign from the left
+-- m is the position automaton over k letters: state 0 is the only initial one, and state i is
+-- the i-th sign from the left
 pub record IsPositions (t : Tree) (k : ℕ) (m : Automaton) : Type 0 where
   pub states : m.states ≡ length (signs t) + 1
   pub letters : m.letters ≡ k

@@ -1,10 +1,12 @@
--- The scan of a text from the left: the tests at each byte, by what is counted over the bytes before it.
+-- The scan of a text from the left: the tests at each byte, by what is counted over the bytes
+-- before it.
 use Rattle.std.specs.Prelude.{◌≡◌, ℕ, ◌+◌, ◌-◌, ◌<◌, Bool, true, false, cond, ◌&&◌, ◌||◌, ◌==◌, ◌⊎◌, nat_lt, nat_le, Option, Some, None, List, [], ◌∷◌, length, take, map, slice_index_or}
 use Rattle.std.specs.List.{position_or_len}
 use Rattle.expression_theory.specs.Expression.{Tree}
 use Rattle.expression_theory.specs.Grammar.{NoWord, EmptyWord, Symbol, AnyTimes, OnceOrMore, AtMostOnce, Sign, Operand, Bar, Postfix, Open, Close, Spells, Union}
 
--- what a byte is: a space or tab, a lower-case letter that is not of the alphabet, no sign, or a sign
+-- what a byte is: a space or tab, a lower-case letter that is not of the alphabet, no sign, or a
+-- sign
 pub data Class : Type 0 where
   Skipped : Class
   Unknown : Class
@@ -33,7 +35,8 @@ sign_class byte =
 
 -- the class of a byte under an alphabet, which is given by its letters' bytes in order
 abbrev pub class_of : List ℕ → ℕ → Class
-class_of letters byte = cond (nat_le 97 byte && nat_le byte 122) (letter_class letters byte) (sign_class byte)
+class_of letters byte =
+    cond (nat_le 97 byte && nat_le byte 122) (letter_class letters byte) (sign_class byte)
 
 -- the classes of the bytes of a text
 abbrev pub classes : List ℕ → List ℕ → List Class
@@ -88,7 +91,8 @@ depth_by o (Good Open) = o + 1
 depth_by o (Good Close) = o - 1
 depth_by o c = o
 
--- the nodes that a byte adds: an operand or `(` where none must come stands behind another piece, and so adds a concatenation
+-- the nodes that a byte adds: an operand or `(` where none must come stands behind another
+-- piece, and so adds a concatenation
 abbrev pub cost : Bool → Class → ℕ
 cost d (Good (Operand t)) = cond d 1 2
 cost d (Good (Postfix m)) = 1
@@ -106,7 +110,8 @@ nodes_from d (c ∷ cs) = cost d c + nodes_from (due_by d c) cs
 abbrev pub size_test : ℕ → Option FaultKind
 size_test n = cond (nat_lt 4000 n) (Some TooLarge) None
 
--- the first test that fails at a byte, if any: whether an operand must come, the open parentheses (at most 200) and the nodes are those of the bytes before it
+-- the first test that fails at a byte, if any: whether an operand must come, the open
+-- parentheses (at most 200) and the nodes are those of the bytes before it
 abbrev pub failing : Bool → ℕ → ℕ → Class → Option FaultKind
 failing d o n Skipped = None
 failing d o n Unknown = Some UnknownLetter
@@ -137,7 +142,8 @@ pub record IsAccepted (cs : List Class) : Type 0 where
 -- the first failing test: at this byte, or at the end of the text
 pub record IsFault (cs : List Class) (kind : FaultKind) (at : ℕ) : Type 0 where
   pub before : (i : ℕ) → i < at → failing_at cs i ≡ None
-  pub here : ((at < length cs) × (failing_at cs at ≡ Some kind)) ⊎ ((at ≡ length cs) × (kind ≡ Unexpected) × ¬ EndsWell cs)
+  pub here : ((at < length cs) × (failing_at cs at ≡ Some kind))
+      ⊎ ((at ≡ length cs) × (kind ≡ Unexpected) × ¬ EndsWell cs)
 
 -- the text with spaces and tabs taken out
 abbrev pub visible : List Class → List Class

@@ -10,7 +10,8 @@ ghost use Rattle.expression_theory.specs.Examples.{ab_star_positions};
 
 /// The text `(ab)*` spells the star of a concatenation, and is accepted.
 pub fn ab_star_is_spelled()
-    ensures tree { SpellsTree (classes (codes "ab") (codes "(ab)*")) (Star (Cat (Letter 0) (Letter 1))) }
+    ensures tree { SpellsTree (classes (codes "ab") (codes "(ab)*"))
+        (Star (Cat (Letter 0) (Letter 1))) }
     ensures accepted { IsAccepted (classes (codes "ab") (codes "(ab)*")) }
 {}
 
@@ -24,11 +25,14 @@ pub fn letters_are_numbered_by_the_alphabet()
 /// Both group to the left.
 /// Spaces and tabs are skipped.
 pub fn postfix_signs_bind_tightest()
-    ensures levels { SpellsTree (classes (codes "ab") (codes "ab*|b")) (Or (Cat (Letter 0) (Star (Letter 1))) (Letter 1)) }
+    ensures levels { SpellsTree (classes (codes "ab") (codes "ab*|b"))
+        (Or (Cat (Letter 0) (Star (Letter 1))) (Letter 1)) }
     ensures space { SpellsTree (classes (codes "ab") (codes "a b")) (Cat (Letter 0) (Letter 1)) }
     ensures tab { SpellsTree (classes (codes "ab") (codes "a\tb")) (Cat (Letter 0) (Letter 1)) }
-    ensures products { SpellsTree (classes (codes "ab") (codes "abb")) (Cat (Cat (Letter 0) (Letter 1)) (Letter 1)) }
-    ensures unions { SpellsTree (classes (codes "ab") (codes "a|b|a")) (Or (Or (Letter 0) (Letter 1)) (Letter 0)) }
+    ensures products { SpellsTree (classes (codes "ab") (codes "abb"))
+        (Cat (Cat (Letter 0) (Letter 1)) (Letter 1)) }
+    ensures unions { SpellsTree (classes (codes "ab") (codes "a|b|a"))
+        (Or (Or (Letter 0) (Letter 1)) (Letter 0)) }
     ensures postfixes { SpellsTree (classes (codes "ab") (codes "a+?")) (Opt (Plus (Letter 0))) }
     ensures constants { SpellsTree (classes (codes "ab") (codes "0|1")) (Or Zero One) }
 {}
@@ -91,7 +95,8 @@ pub fn ab_star_has_three_positions()
 /// In `a0|b` the sign a begins no word, follows no sign, is followed by none, and ends no word.
 /// The sign b begins a word and ends one.
 pub fn a_dead_sign_has_no_step()
-    ensures text { SpellsTree (classes (codes "ab") (codes "a0|b")) (Or (Cat (Letter 0) Zero) (Letter 1)) }
+    ensures text { SpellsTree (classes (codes "ab") (codes "a0|b"))
+        (Or (Cat (Letter 0) Zero) (Letter 1)) }
     ensures begins { ¬ Begins (SignWord (Or (Cat (Letter 0) Zero) (Letter 1))) 1 }
     ensures follows { (p : ℕ) → ¬ Follows (SignWord (Or (Cat (Letter 0) Zero) (Letter 1))) p 1 }
     ensures followed { (q : ℕ) → ¬ Follows (SignWord (Or (Cat (Letter 0) Zero) (Letter 1))) 1 q }

@@ -15,7 +15,8 @@ ghost use Rattle.expression_theory.specs.Polish.{polish, trees};
 
 /// A position automaton accepts exactly the words of its expression (Glushkov).
 pub fn positions_accept_the_language()
-    ensures { (t : Tree) (k : ℕ) (m : Automaton) → IsPositions t k m → (w : List ℕ) → Accepts m w ↔ Means t w }
+    ensures { (t : Tree) (k : ℕ) (m : Automaton) → IsPositions t k m → (w : List ℕ) → Accepts m w
+        ↔ Means t w }
 {}
 
 /// A text spells one tree at most.
@@ -30,22 +31,26 @@ pub fn accepted_spells_a_tree()
 
 /// An accepted text has no fault.
 pub fn accepted_has_no_fault()
-    ensures { (text : List Class) (kind : FaultKind) (at : ℕ) → IsAccepted text → ¬ IsFault text kind at }
+    ensures { (text : List Class) (kind : FaultKind) (at : ℕ) → IsAccepted text
+        → ¬ IsFault text kind at }
 {}
 
 /// A text has one first fault at most.
 pub fn one_fault()
-    ensures { (text : List Class) (k l : FaultKind) (i j : ℕ) → IsFault text k i → IsFault text l j → (k ≡ l) × (i ≡ j) }
+    ensures { (text : List Class) (k l : FaultKind) (i j : ℕ) → IsFault text k i → IsFault text l j
+        → (k ≡ l) × (i ≡ j) }
 {}
 
 /// A text that spells a tree is refused for its depth or its size alone.
 pub fn only_limits_refuse_a_tree()
-    ensures { (text : List Class) (kind : FaultKind) (at : ℕ) (t : Tree) → IsFault text kind at → SpellsTree text t → (kind ≡ TooDeep) ⊎ (kind ≡ TooLarge) }
+    ensures { (text : List Class) (kind : FaultKind) (at : ℕ) (t : Tree) → IsFault text kind at
+        → SpellsTree text t → (kind ≡ TooDeep) ⊎ (kind ≡ TooLarge) }
 {}
 
 /// Each text is accepted or has a first fault.
 pub fn every_text_is_accepted_or_has_a_fault()
-    ensures { (text : List Class) → IsAccepted text ⊎ ((kind : FaultKind) × (at : ℕ) × IsFault text kind at) }
+    ensures { (text : List Class) → IsAccepted text
+        ⊎ ((kind : FaultKind) × (at : ℕ) × IsFault text kind at) }
 {}
 
 /// The nodes that the scan counts are those of the tree.

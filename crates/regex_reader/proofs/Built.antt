@@ -83,7 +83,7 @@ final_decides t (suc p) = decides_by (Finals t (suc p)) (ends_decide t (suc p)) 
     to (inl (h, e)) = absurd (let f : 0 ≡ suc p = e in omega arith)
     to (inr h) = h
 
-steps_from_below : (t : Tree) (p q : ℕ) → StepsTo t p q → p < length (signs t) + 1
+pub steps_from_below : (t : Tree) (p q : ℕ) → StepsTo t p q → p < length (signs t) + 1
 steps_from_below t zero q h = omega arith
 steps_from_below t (suc p) q (u, v, h) = let b : suc p < 1 + length (signs t) = (between 1 t (suc p) u (q ∷ v) h).1 in omega arith
 

@@ -3,3 +3,4 @@ pub mod Tables
 pub mod Combining
 pub mod Nodes
 pub mod Built
+pub mod SomePositions

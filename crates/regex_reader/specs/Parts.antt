@@ -6,7 +6,7 @@ use Rattle.expression_theory.specs.Positions.{signs, numbered}
 use Rattle.expression_theory.specs.FirstLast.{has_word, has_empty, firsts, lasts, has, follows}
 use Rattle.expression_theory.specs.Polish.{Node, built, arity, trees, IsNotation, letters, signs_among, follows_among}
 use Rattle.regex_reader.specs.declared.parts.Part.{Part}
-use Rattle.regex_reader.specs.Marks.{Table, is_marked}
+use Rattle.regex_reader.specs.Marks.{widest, Table, is_marked}
 
 -- each sign that can begin a word of the tree can follow each that can end one
 abbrev pub IsClosed : Tree → Type 0
@@ -30,9 +30,11 @@ AreParts n (t ∷ ts) (r ∷ rs) = IsPart n t r × AreParts (n + length (signs t
 
 -- the table has what follows what in the trees
 abbrev pub IsFollowing : ℕ → List Tree → Table → Type 0
-IsFollowing n ts table = (p q : ℕ) → p < table.width → q < table.width → is_marked table p q ≡ follows_among n ts p q
+IsFollowing n ts table =
+    (p q : ℕ) → p < table.width → q < table.width → is_marked table p q ≡ follows_among n ts p q
 
--- the parts of the trees, the first one last, and the table of what follows what in them; their signs go up to the table's end
+-- the parts of the trees, the first one last, and the table of what follows what in them; their
+-- signs go up to the table's end
 pub record IsEvaluated (ts : List Tree) (n : ℕ) (parts : List Part) (table : Table) : Type 0 where
   pub known : AreParts n ts (reverse parts)
   pub end : n + signs_among ts ≡ table.width
@@ -43,30 +45,34 @@ pub record CanRead (ns : List Node) (n : ℕ) (parts : List Part) (table : Table
   pub some : 0 < length ns
   pub notation : IsNotation ns
   pub room : length (letters ns) < table.width
-  pub narrow : table.width ≤ 4001
+  pub narrow : table.width ≤ widest
   pub behind : IsEvaluated (trees (drop 1 ns)) n parts table
 
 -- so many of the parts can be put together
 pub record CanCombine (count n : ℕ) (parts : List Part) (table : Table) : Type 0 where
   pub trees : List Tree
   pub many : count ≤ length trees
-  pub narrow : table.width ≤ 4001
+  pub narrow : table.width ≤ widest
   pub evaluated : IsEvaluated trees n parts table
 
 -- the node has taken its parts
 abbrev pub HasCombined : Node → ℕ → List Part → Table → ℕ → List Part → Table → Type 0
-HasCombined node n old before k new after = (ts : List Tree) → arity node ≤ length ts → IsEvaluated ts n old before → IsEvaluated (built node ts) k new after
+HasCombined node n old before k new after =
+    (ts : List Tree) → arity node ≤ length ts → IsEvaluated ts n old before
+    → IsEvaluated (built node ts) k new after
 
 -- the two parts fit into the table
 pub record CanJoin (n : ℕ) (left right : Part) (table : Table) : Type 0 where
-  pub narrow : table.width ≤ 4001
+  pub narrow : table.width ≤ widest
   pub room : n + left.signs + right.signs ≤ table.width
   pub last : All (λ p. p < table.width) left.last.items
   pub first : All (λ p. p < table.width) right.first.items
 
 -- the pairs across are added where both parts have words; else no sign of them stands in a word
 abbrev pub HasJoined : ℕ → Part → Part → Table → Part → Table → Type 0
-HasJoined n left right before joined after = (s t : Tree) (ts : List Tree) → IsPart n s left → IsPart (n + length (signs s)) t right → IsFollowing n (s ∷ (t ∷ ts)) before →
+HasJoined n left right before joined after =
+    (s t : Tree) (ts : List Tree) → IsPart n s left → IsPart (n + length (signs s)) t right
+    → IsFollowing n (s ∷ (t ∷ ts)) before →
     IsPart n (Cat s t) joined × IsFollowing n (Cat s t ∷ ts) after
 
 -- the part fits into the table
@@ -76,4 +82,6 @@ pub record CanRepeat (part : Part) (table : Table) : Type 0 where
 
 -- the part is that of once or more, and the pairs across are added
 abbrev pub HasRepeated : Part → Table → Part → Table → Type 0
-HasRepeated part before repeated after = (n : ℕ) (t : Tree) (ts : List Tree) → IsPart n t part → IsFollowing n (t ∷ ts) before → IsPart n (Plus t) repeated × IsFollowing n (Plus t ∷ ts) after
+HasRepeated part before repeated after =
+    (n : ℕ) (t : Tree) (ts : List Tree) → IsPart n t part → IsFollowing n (t ∷ ts) before
+    → IsPart n (Plus t) repeated × IsFollowing n (Plus t ∷ ts) after

@@ -25,7 +25,8 @@ frames_of r = frame_of r.piece r.top ∷ map (frame_of None) (reverse r.waiting.
 -- the test that a fault reports, at a place
 abbrev pub IsFaultAt : Option scan.FaultKind → ℕ → ExprFault → Type 0
 IsFaultAt failing at (fault.Unexpected place) = (failing ≡ Some scan.Unexpected) × (place ≡ at)
-IsFaultAt failing at (fault.UnknownLetter place) = (failing ≡ Some scan.UnknownLetter) × (place ≡ at)
+IsFaultAt failing at (fault.UnknownLetter place) =
+    (failing ≡ Some scan.UnknownLetter) × (place ≡ at)
 IsFaultAt failing at (fault.TooDeep place) = (failing ≡ Some scan.TooDeep) × (place ≡ at)
 IsFaultAt failing at (fault.TooLarge place) = (failing ≡ Some scan.TooLarge) × (place ≡ at)
 IsFaultAt failing at fault.Memory = Unit {0}

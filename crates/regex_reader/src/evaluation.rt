@@ -4,7 +4,7 @@ ghost use Rattle.expression_theory.specs.Polish as notation;
 ghost use Rattle.regex_reader.specs.Notations.{node_of};
 ghost use Rattle.regex_reader.specs.Parts.{IsPart, IsFollowing, IsEvaluated, CanRead, CanCombine, HasCombined, CanJoin, HasJoined, CanRepeat, HasRepeated};
 ghost use Rattle.expression_theory.specs.Expression.{Tree, Opt};
-ghost use Rattle.regex_reader.specs.Marks.{Table, is_marked};
+ghost use Rattle.regex_reader.specs.Marks.{widest, Table, is_marked};
 
 use crate::marks::Marks;
 use crate::parts::{Part, bare, behind, either, have_words, one_sign};
@@ -32,7 +32,9 @@ fn take_two(parts: &mut Vec<Part>) -> (Part, Part)
 
 /// Reads `0` or `1`.
 fn read_bare(parts: &mut Vec<Part>, has_empty: bool) -> Result<(), Memory>
-    ensures { OnOk result ((n : ℕ) (table : Table) → HasCombined (if has_empty then notation.EmptyWord else notation.NoWord) n parts.old.items table n parts.new.items table) }
+    ensures { OnOk result ((n : ℕ) (table : Table)
+        → HasCombined
+        (if has_empty then notation.EmptyWord else notation.NoWord) n parts.old.items table n parts.new.items table) }
 {
     let part = bare(*parts.allocator(), has_empty, 0);
     parts.push(part)?;
@@ -41,7 +43,9 @@ fn read_bare(parts: &mut Vec<Part>, has_empty: bool) -> Result<(), Memory>
 
 /// Reads a sign whose number is given.
 fn read_sign(parts: &mut Vec<Part>, sign: u32) -> Result<(), Memory>
-    ensures { OnOk result ((a : ℕ) (table : Table) → HasCombined (notation.Symbol a) (sign + 1) parts.old.items table sign parts.new.items table) }
+    ensures { OnOk result ((a : ℕ) (table : Table)
+        → HasCombined (notation.Symbol a)
+        (sign + 1) parts.old.items table sign parts.new.items table) }
 {
     let part = one_sign(*parts.allocator(), sign)?;
     parts.push(part)?;
@@ -51,7 +55,8 @@ fn read_sign(parts: &mut Vec<Part>, sign: u32) -> Result<(), Memory>
 /// Reads a union.
 fn read_or(parts: &mut Vec<Part>, marks: &Marks, sign: u32) -> Result<(), Memory>
     requires { CanCombine 2 sign parts.old.items marks.now }
-    ensures { OnOk result (HasCombined notation.Union sign parts.old.items marks.now sign parts.new.items marks.now) }
+    ensures { OnOk result
+        (HasCombined notation.Union sign parts.old.items marks.now sign parts.new.items marks.now) }
 {
     let (left, right) = take_two(parts);
     let part = either(left, right)?;
@@ -84,7 +89,8 @@ fn join(
 /// Reads a concatenation.
 fn read_cat(parts: &mut Vec<Part>, marks: &mut Marks, sign: u32) -> Result<(), Memory>
     requires { CanCombine 2 sign parts.old.items marks.old }
-    ensures combined { OnOk result (HasCombined notation.Product sign parts.old.items marks.old sign parts.new.items marks.new) }
+    ensures combined { OnOk result
+        (HasCombined notation.Product sign parts.old.items marks.old sign parts.new.items marks.new) }
     ensures width { marks.new.width ≡ marks.old.width }
 {
     let (left, right) = take_two(parts);
@@ -122,7 +128,8 @@ fn optional(part: Part) -> Part
 /// Reads `*`.
 fn read_star(parts: &mut Vec<Part>, marks: &mut Marks, sign: u32) -> Result<(), Memory>
     requires { CanCombine 1 sign parts.old.items marks.old }
-    ensures combined { OnOk result (HasCombined notation.AnyTimes sign parts.old.items marks.old sign parts.new.items marks.new) }
+    ensures combined { OnOk result
+        (HasCombined notation.AnyTimes sign parts.old.items marks.old sign parts.new.items marks.new) }
     ensures width { marks.new.width ≡ marks.old.width }
 {
     let part = take_one(parts);
@@ -135,7 +142,8 @@ fn read_star(parts: &mut Vec<Part>, marks: &mut Marks, sign: u32) -> Result<(), 
 /// Reads `+`.
 fn read_plus(parts: &mut Vec<Part>, marks: &mut Marks, sign: u32) -> Result<(), Memory>
     requires { CanCombine 1 sign parts.old.items marks.old }
-    ensures combined { OnOk result (HasCombined notation.OnceOrMore sign parts.old.items marks.old sign parts.new.items marks.new) }
+    ensures combined { OnOk result
+        (HasCombined notation.OnceOrMore sign parts.old.items marks.old sign parts.new.items marks.new) }
     ensures width { marks.new.width ≡ marks.old.width }
 {
     let part = take_one(parts);
@@ -147,7 +155,8 @@ fn read_plus(parts: &mut Vec<Part>, marks: &mut Marks, sign: u32) -> Result<(), 
 /// Reads `?`.
 fn read_opt(parts: &mut Vec<Part>, marks: &Marks, sign: u32) -> Result<(), Memory>
     requires { CanCombine 1 sign parts.old.items marks.now }
-    ensures { OnOk result (HasCombined notation.AtMostOnce sign parts.old.items marks.now sign parts.new.items marks.now) }
+    ensures { OnOk result
+        (HasCombined notation.AtMostOnce sign parts.old.items marks.now sign parts.new.items marks.now) }
 {
     let part = take_one(parts);
     let part = optional(part);
@@ -163,7 +172,8 @@ fn read_first(
     sign: u32,
 ) -> Result<u32, Memory>
     requires { CanRead (map node_of nodes.now) sign parts.old.items marks.old }
-    ensures evaluated { IfOk result (λ n. IsEvaluated (notation.trees (map node_of nodes.now)) n parts.new.items marks.new) }
+    ensures evaluated { IfOk result
+        (λ n. IsEvaluated (notation.trees (map node_of nodes.now)) n parts.new.items marks.new) }
     ensures width { marks.new.width ≡ marks.old.width }
 {
     match nodes[0] {
@@ -186,10 +196,11 @@ fn read_first(
 fn read_all(nodes: &[Node], parts: &mut Vec<Part>, marks: &mut Marks) -> Result<(), Memory>
     requires notation { notation.IsNotation (map node_of nodes.now) }
     requires room { marks.old.width ≡ length (notation.letters (map node_of nodes.now)) + 1 }
-    requires narrow { marks.old.width ≤ 4001 }
+    requires narrow { marks.old.width ≤ widest }
     requires bare { (p q : ℕ) → is_marked marks.old p q ≡ false }
     requires none { parts.old.items ≡ [] }
-    ensures evaluated { OnOk result (IsEvaluated (notation.trees (map node_of nodes.now)) 1 parts.new.items marks.new) }
+    ensures evaluated { OnOk result
+        (IsEvaluated (notation.trees (map node_of nodes.now)) 1 parts.new.items marks.new) }
     ensures width { marks.new.width ≡ marks.old.width }
 {
     let mut sign = marks.width() as u32;
@@ -206,11 +217,13 @@ fn read_all(nodes: &[Node], parts: &mut Vec<Part>, marks: &mut Marks) -> Result<
 pub fn evaluate(alloc: Global, nodes: &[Node], marks: &mut Marks) -> Result<Part, Memory>
     requires notation { notation.IsNotation (map node_of nodes.now) }
     requires room { marks.old.width ≡ length (notation.letters (map node_of nodes.now)) + 1 }
-    requires narrow { marks.old.width ≤ 4001 }
+    requires narrow { marks.old.width ≤ widest }
     requires bare { (p q : ℕ) → is_marked marks.old p q ≡ false }
     requires tree { (t : Tree) × (map node_of nodes.now ≡ notation.polish t) }
-    ensures part { IfOk result (λ r. (t : Tree) → map node_of nodes.now ≡ notation.polish t → IsPart 1 t r) }
-    ensures marks { OnOk result ((t : Tree) → map node_of nodes.now ≡ notation.polish t → IsFollowing 1 (t ∷ []) marks.new) }
+    ensures part { IfOk result (λ r. (t : Tree) → map node_of nodes.now ≡ notation.polish t
+        → IsPart 1 t r) }
+    ensures marks { OnOk result ((t : Tree) → map node_of nodes.now ≡ notation.polish t
+        → IsFollowing 1 (t ∷ []) marks.new) }
     ensures width { marks.new.width ≡ marks.old.width }
 {
     let mut parts = Vec::new(alloc);

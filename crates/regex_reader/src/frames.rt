@@ -30,7 +30,8 @@ pub fn leaf(operand: Operand) -> Expr
 
 /// A piece and a postfix sign behind it.
 pub fn applied(alloc: Global, quantifier: Quantifier, piece: Expr) -> Result<Expr, Memory>
-    ensures { IfOk result (λ e. tree_of e ≡ grammar.applied (quantifier_of quantifier) (tree_of piece)) }
+    ensures { IfOk result
+        (λ e. tree_of e ≡ grammar.applied (quantifier_of quantifier) (tree_of piece)) }
 {
     let part = Box::new(alloc, piece)?;
     Ok(match quantifier {
@@ -52,7 +53,8 @@ fn joined(alloc: Global, sequence: Option<Expr>, piece: Expr) -> Result<Expr, Me
 
 /// A union and a sequence beside it.
 fn either(alloc: Global, alternatives: Option<Expr>, sequence: Expr) -> Result<Expr, Memory>
-    ensures { IfOk result (λ e. tree_of e ≡ frames.either (tree_in alternatives) (tree_of sequence)) }
+    ensures { IfOk result
+        (λ e. tree_of e ≡ frames.either (tree_in alternatives) (tree_of sequence)) }
 {
     match alternatives {
         None => Ok(sequence),
@@ -62,7 +64,9 @@ fn either(alloc: Global, alternatives: Option<Expr>, sequence: Expr) -> Result<E
 
 /// All that was read in a frame, whose last piece is given.
 pub fn whole(alloc: Global, frame: Frame, piece: Expr) -> Result<Expr, Memory>
-    ensures { IfOk result (λ e. tree_of e ≡ frames.whole (tree_in frame.alternatives) (tree_in frame.sequence) (tree_of piece)) }
+    ensures { IfOk result
+        (λ e. tree_of e ≡ frames.whole (tree_in frame.alternatives) (tree_in frame.sequence)
+        (tree_of piece)) }
 {
     let last = joined(alloc, frame.sequence, piece)?;
     either(alloc, frame.alternatives, last)
@@ -71,7 +75,8 @@ pub fn whole(alloc: Global, frame: Frame, piece: Expr) -> Result<Expr, Memory>
 /// The frame whose last piece, if there is one, has joined its sequence.
 pub fn settle(alloc: Global, frame: Frame, piece: Option<Expr>) -> Result<Frame, Memory>
     ensures alternatives { IfOk result (λ f. tree_in f.alternatives ≡ tree_in frame.alternatives) }
-    ensures sequence { IfOk result (λ f. tree_in f.sequence ≡ frames.settle (tree_in frame.sequence) (tree_in piece)) }
+    ensures sequence { IfOk result
+        (λ f. tree_in f.sequence ≡ frames.settle (tree_in frame.sequence) (tree_in piece)) }
 {
     let Some(last) = piece else {
         return Ok(frame);

@@ -9,7 +9,7 @@ ghost use Rattle.expression_theory.specs.FirstLast.{has};
 ghost use Rattle.expression_theory.specs.Polish as notation;
 ghost use Rattle.regex_reader.specs.Expressions.{tree_of};
 ghost use Rattle.regex_reader.specs.Notations.{node_of};
-ghost use Rattle.regex_reader.specs.Marks.{is_marked};
+ghost use Rattle.regex_reader.specs.Marks.{widest, is_marked};
 ghost use Rattle.regex_reader.specs.Growth.{HasFinals, HasGrown, IsOneStep, IsRowStep, IsTableStep, IsBuilt};
 
 use crate::Expr;
@@ -22,7 +22,8 @@ use syn_words::{Memory, Nfa};
 
 /// Appends the letter of a node, if it is one.
 fn push_letter(node: Node, letters: &mut Vec<u8>) -> Result<(), Memory>
-    ensures { OnOk result (letters.new.items ≡ letters.old.items ++ notation.letters (node_of node ∷ [])) }
+    ensures { OnOk result
+        (letters.new.items ≡ letters.old.items ++ notation.letters (node_of node ∷ [])) }
 {
     if let Node::Letter(letter) = node {
         letters.push(letter)?;
@@ -89,8 +90,9 @@ fn add_row(nfa: &mut Nfa, marks: &Marks, letters: &[u8], state: u32) -> Result<(
     requires state { state < marks.now.width }
     requires letters { All (λ a. a < nfa.old.letters) letters.now }
     requires width { marks.now.width ≡ length letters.now + 1 }
-    requires narrow { marks.now.width ≤ 4001 }
-    ensures { OnOk result (HasGrown nfa.old nfa.new (IsRowStep marks.now letters.now state (length letters.now))) }
+    requires narrow { marks.now.width ≤ widest }
+    ensures { OnOk result
+        (HasGrown nfa.old nfa.new (IsRowStep marks.now letters.now state (length letters.now))) }
 {
     for (place, letter) in letters.iter().enumerate() {
         let sign = place as u32 + 1;
@@ -104,8 +106,9 @@ fn add_rows(nfa: &mut Nfa, marks: &Marks, letters: &[u8]) -> Result<(), Memory>
     requires states { nfa.old.states ≡ marks.now.width }
     requires letters { All (λ a. a < nfa.old.letters) letters.now }
     requires width { marks.now.width ≡ length letters.now + 1 }
-    requires narrow { marks.now.width ≤ 4001 }
-    ensures { OnOk result (HasGrown nfa.old nfa.new (IsTableStep marks.now letters.now marks.now.width)) }
+    requires narrow { marks.now.width ≤ widest }
+    ensures { OnOk result
+        (HasGrown nfa.old nfa.new (IsTableStep marks.now letters.now marks.now.width)) }
 {
     let states = letters.len() as u32 + 1;
     for state in 0..states {
@@ -125,10 +128,11 @@ fn build(
     requires some { 1 ≤ letters }
     requires few { letters ≤ 60 }
     requires width { marks.now.width ≡ length signs.now + 1 }
-    requires narrow { marks.now.width ≤ 4001 }
+    requires narrow { marks.now.width ≤ widest }
     requires last { All (λ p. p < length signs.now + 1) part.now.last.items }
     requires letters { All (λ a. a < letters) signs.now }
-    ensures { IfOk result (IsBuilt part.now.has_empty part.now.last.items marks.now signs.now letters) }
+    ensures { IfOk result
+        (IsBuilt part.now.has_empty part.now.last.items marks.now signs.now letters) }
 {
     let mut nfa = Nfa::new(alloc, signs.len() as u32 + 1, letters)?;
     nfa.set_initial(0);

@@ -2,7 +2,7 @@
 ghost use Rattle.std.specs.Prelude.{◌≡◌, ℕ, ◌+◌, ◌*◌, ◌<◌, ◌≤◌, Bool, false, ◌&&◌, ◌==◌, List, length, slice_index_or, IfOk};
 ghost use Rattle.std.specs.List.{All};
 ghost use Rattle.expression_theory.specs.FirstLast.{has};
-ghost use Rattle.regex_reader.specs.Marks.{Table, is_marked, IsAdded, IsCleared};
+ghost use Rattle.regex_reader.specs.Marks.{widest, Table, is_marked, IsAdded, IsCleared};
 
 use std::alloc::Global;
 use std::marker::Model;
@@ -13,8 +13,10 @@ fn clear(places: &mut [bool], from: usize, to: usize)
     requires order { from ≤ to }
     requires to { to ≤ length places.old }
     ensures cleared { (k : ℕ) → from ≤ k → k < to → slice_index_or places.new k false ≡ false }
-    ensures before { (k : ℕ) → k < from → slice_index_or places.new k false ≡ slice_index_or places.old k false }
-    ensures behind { (k : ℕ) → to ≤ k → slice_index_or places.new k false ≡ slice_index_or places.old k false }
+    ensures before { (k : ℕ) → k < from
+        → slice_index_or places.new k false ≡ slice_index_or places.old k false }
+    ensures behind { (k : ℕ) → to ≤ k
+        → slice_index_or places.new k false ≡ slice_index_or places.old k false }
 {
     for place in from..to {
         places[place] = false;
@@ -30,19 +32,19 @@ pub struct Marks {
 
 impl Model for Marks {
     ghost use Rattle.std.specs.Prelude.{◌≡◌, ◌*◌, ◌≤◌, length};
-    ghost use Rattle.regex_reader.specs.Marks.{Table};
+    ghost use Rattle.regex_reader.specs.Marks.{widest, Table};
 
     ghost Value = { Table };
 
     ghost view = { λ m. record { width = m.width; places = m.places.items } };
 
-    ghost invariant = { λ m. (length m.places.items ≡ m.width * m.width) × (m.width ≤ 4001) };
+    ghost invariant = { λ m. (length m.places.items ≡ m.width * m.width) × (m.width ≤ widest) };
 }
 
 impl Marks {
     /// No pair.
     pub fn new(alloc: Global, width: usize) -> Result<Marks, Memory>
-        requires { width ≤ 4001 }
+        requires { width ≤ widest }
         ensures { IfOk result (λ m. (m.width ≡ width) × ((p q : ℕ) → is_marked m p q ≡ false)) }
     {
         Ok(Marks {
@@ -54,7 +56,7 @@ impl Marks {
     /// The width.
     pub fn width(&self) -> usize
         ensures width { result ≡ self.now.width }
-        ensures narrow { result ≤ 4001 }
+        ensures narrow { result ≤ widest }
     {
         self.width
     }

@@ -97,8 +97,10 @@ pub fn behind(left: Part, right: Part) -> Result<Part, Memory>
     ensures empty { IfOk result (λ r. r.has_empty ≡ (left.has_empty && right.has_empty)) }
     ensures closed { IfOk result (λ r. r.is_closed ≡ false) }
     ensures signs { IfOk result (λ r. r.signs ≡ left.signs + right.signs) }
-    ensures first { IfOk result (λ r. r.first.items ≡ left.first.items ++ cond left.has_empty right.first.items []) }
-    ensures last { IfOk result (λ r. r.last.items ≡ cond right.has_empty left.last.items [] ++ right.last.items) }
+    ensures first { IfOk result
+        (λ r. r.first.items ≡ left.first.items ++ cond left.has_empty right.first.items []) }
+    ensures last { IfOk result
+        (λ r. r.last.items ≡ cond right.has_empty left.last.items [] ++ right.last.items) }
 {
     let mut first = left.first;
     let mut last = left.last;

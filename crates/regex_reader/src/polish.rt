@@ -23,7 +23,10 @@ pub enum Node {
 
 /// The root of an expression, whose parts are put on top of those that wait, the left one last.
 fn take_root<'a>(expr: &'a Expr, waiting: &mut Vec<&'a Expr>) -> Result<Node, Memory>
-    ensures { IfOk result (λ n. node_of n ∷ notation.polish_all (waiting_trees waiting.new.items) ≡ notation.polish_all (tree_of expr.now ∷ waiting_trees waiting.old.items)) }
+    ensures { IfOk result
+        (λ n. node_of n ∷ notation.polish_all
+        (waiting_trees waiting.new.items) ≡ notation.polish_all
+        (tree_of expr.now ∷ waiting_trees waiting.old.items)) }
 {
     Ok(match expr {
         Expr::Zero => Node::Zero,

@@ -57,7 +57,8 @@ pub fn start(alloc: Global) -> Reader
 
 /// The count of nodes, where it is within the limit.
 fn within_nodes(nodes: u32, at: u64) -> Result<u32, ExprFault>
-    ensures { MatchResult result (λ n. (n ≡ nodes) × (scan.size_test nodes ≡ None)) (λ f. IsFaultAt (scan.size_test nodes) at f) }
+    ensures { MatchResult result (λ n. (n ≡ nodes)
+        × (scan.size_test nodes ≡ None)) (λ f. IsFaultAt (scan.size_test nodes) at f) }
 {
     if nodes > NODES {
         return Err(ExprFault::TooLarge { at });
@@ -90,7 +91,8 @@ fn read_operand(
 /// Reads `(`.
 fn read_open(alloc: Global, reader: Reader, at: u64) -> Result<Reader, ExprFault>
     requires { IsReader reader }
-    ensures { MatchResult result (HasRead reader (scan.Good grammar.Open)) (IsFaultAt (failing_here reader (scan.Good grammar.Open)) at) }
+    ensures { MatchResult result (HasRead reader (scan.Good grammar.Open))
+        (IsFaultAt (failing_here reader (scan.Good grammar.Open)) at) }
 {
     if reader.waiting.len() >= DEPTH {
         return Err(ExprFault::TooDeep { at });
@@ -110,7 +112,8 @@ fn read_open(alloc: Global, reader: Reader, at: u64) -> Result<Reader, ExprFault
 /// Reads `|`.
 fn read_bar(alloc: Global, reader: Reader, at: u64) -> Result<Reader, ExprFault>
     requires { IsReader reader }
-    ensures { MatchResult result (HasRead reader (scan.Good grammar.Bar)) (IsFaultAt (failing_here reader (scan.Good grammar.Bar)) at) }
+    ensures { MatchResult result (HasRead reader (scan.Good grammar.Bar))
+        (IsFaultAt (failing_here reader (scan.Good grammar.Bar)) at) }
 {
     let Reader {
         waiting,
@@ -167,7 +170,8 @@ fn read_postfix(
 /// Reads `)`.
 fn read_close(alloc: Global, reader: Reader, at: u64) -> Result<Reader, ExprFault>
     requires { IsReader reader }
-    ensures { MatchResult result (HasRead reader (scan.Good grammar.Close)) (IsFaultAt (failing_here reader (scan.Good grammar.Close)) at) }
+    ensures { MatchResult result (HasRead reader (scan.Good grammar.Close))
+        (IsFaultAt (failing_here reader (scan.Good grammar.Close)) at) }
 {
     let Reader {
         mut waiting,
@@ -193,7 +197,8 @@ fn read_close(alloc: Global, reader: Reader, at: u64) -> Result<Reader, ExprFaul
 /// Reads a byte of a class, at a place.
 pub fn read_class(alloc: Global, reader: Reader, class: Class, at: u64) -> Result<Reader, ExprFault>
     requires { IsReader reader }
-    ensures { MatchResult result (HasRead reader (class_of class)) (IsFaultAt (failing_here reader (class_of class)) at) }
+    ensures { MatchResult result (HasRead reader (class_of class))
+        (IsFaultAt (failing_here reader (class_of class)) at) }
 {
     match class {
         Class::Skipped => Ok(reader),

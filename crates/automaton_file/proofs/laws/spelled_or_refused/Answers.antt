@@ -1,5 +1,4 @@
-use Rattle.automaton_file.proofs.SourceLaws.{refusal_spells_none}
-use Rattle.automaton_file.proofs.Refusals.{source_or_refusal}
+use Rattle.automaton_file.proofs.SourceLaws.{refusal_spells_none, source_or_refusal}
 use Rattle.automaton_file.proofs.laws.spelled_or_refused.Goals as goal
 
 pub returns : goal.returns

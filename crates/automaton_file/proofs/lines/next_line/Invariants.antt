@@ -1,6 +1,5 @@
 use Rattle.std.proofs.Common.{◌≡◌, ◌≤◌, ◌+◌, ◌-◌, length, drop}
-use Rattle.automaton_file.specs.LineText.{text_lines, line_start}
-use Rattle.automaton_file.specs.Reading.{IsSkip}
+use Rattle.automaton_file.specs.LineText.{text_lines, line_start, IsSkip}
 use Rattle.automaton_file.proofs.lines.next_line.Given as goal
 
 abbrev pub invariant-lines : goal.invariant-lines

@@ -1,8 +1,8 @@
 use Rattle.std.proofs.Common.{◌≡◌, length}
 use Rattle.std.specs.List.{list_all}
 use Rattle.automaton_file.specs.LineText.{fields}
-use Rattle.automaton_file.specs.FileText.{is_state, with_marks}
-use Rattle.automaton_file.specs.Reading.{mark_state}
+use Rattle.automaton_file.specs.FileText.{is_state}
+use Rattle.automaton_file.specs.Reading.{with_marks, mark_state}
 use Rattle.automaton_file.proofs.parts.mark_states.Given as goal
 
 abbrev pub invariant-fields : goal.invariant-fields

@@ -1,0 +1,11 @@
+//! Laws of expressions.
+
+ghost use Rattle.std.specs.Prelude.{ℕ};
+ghost use Rattle.language_theory.specs.Automaton.{Automaton};
+ghost use Rattle.expression_theory.specs.Expression.{Tree};
+ghost use Rattle.expression_theory.specs.Positions.{IsPositions};
+
+/// Each expression has a position automaton over so many letters.
+pub fn an_expression_has_a_position_automaton()
+    ensures { (k : ℕ) (t : Tree) → (m : Automaton) × IsPositions t k m }
+{}
