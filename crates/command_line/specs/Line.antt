@@ -72,3 +72,14 @@ IsFaultOf words fault.Words = AreNoWords words
 IsFaultOf words fault.Command = IsNoCommand words
 IsFaultOf words (fault.Number place) = IsBadNumber words place
 IsFaultOf words fault.Memory = ⊤
+
+-- the numbers of a request are in the ranges of their options
+pub record IsInRange (r : Request) : Type 0 where
+  pub subsets : r.subsets ≤ 4096
+  pub elements : r.elements ≤ 50000
+  pub table : r.table ≤ 8000
+  pub nodes : r.nodes ≤ 1000000
+  pub level : r.level ≤ 12
+  pub pairs : r.pairs ≤ 100000
+  pub least_workers : 1 ≤ r.workers
+  pub workers : r.workers ≤ 64

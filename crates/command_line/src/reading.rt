@@ -2,7 +2,7 @@
 ghost use Rattle.std.specs.Prelude.{◌≡◌, ◌≤◌, ◌∷◌, ℕ, [], map, decimal, string_bytes, IfOk, IfErr, IfSome, IsNone};
 ghost use Rattle.clap.specs.Words.{found_of, rows_of};
 ghost use Rattle.command_line.specs.Tables.{row, option_at};
-ghost use Rattle.command_line.specs.Line.{IsLine, IsNumberIn, AreNumbersIn, IsFirstBad, IsFaultOf};
+ghost use Rattle.command_line.specs.Line.{IsLine, IsNumberIn, AreNumbersIn, IsFirstBad, IsFaultOf, IsInRange};
 
 use crate::commands::command_of;
 use crate::fault::LineFault;
@@ -16,6 +16,7 @@ use std::alloc::Global;
 /// before it in `LineFault`.
 pub fn read_line(alloc: Global, words: &[String]) -> Result<Request, LineFault>
     ensures line { IfOk result (λ request. IsLine (map string_bytes words.now) request) }
+    ensures range { IfOk result IsInRange }
     ensures fault { IfErr result (IsFaultOf (map string_bytes words.now)) }
 {
     let matches = parse(alloc, words)?;

@@ -4,6 +4,8 @@
 mod automaton_section;
 mod buffer;
 mod rendering;
+#[cfg(test)]
+mod tests;
 
 pub use automaton_section::say_automaton;
 pub use buffer::{Buffer, SayFault, flush, say};
