@@ -1,6 +1,7 @@
 //! Whole files and whole pieces over devices in memory and of the system.
-use crate::{MemFiles, MemSink, ReadFault, RealFiles, RealSink, put_all, read_all};
+use crate::{Files, Got, MemFiles, MemSink, Opened, ReadFault, RealFiles, RealSink, put_all, read_all};
 use std::fs;
+use std::io::{self, ErrorKind, Write};
 use std::test::Fail;
 
 const TEXT: &str = "twenty-six bytes of a text";
@@ -90,4 +91,35 @@ fn fails_at_a_name_that_is_not_there(rt: HostRuntime) {
         Ok(_) => assert!(rt; false, "a file that is not there was read"),
         Err(fault) => assert_eq!(rt; sign(fault), "failed"),
     }
+}
+
+#[test]
+fn a_read_that_fails_is_no_end(rt: HostRuntime) {
+    // A folder can be opened like a file, and the system refuses to read from it.
+    let mut files = RealFiles::new(&rt);
+    let mut piece = [0u8; 16];
+    match files.start(".") {
+        Opened::Ready => assert_eq!(rt; files.read(&mut piece), Got::Failed),
+        _ => assert!(rt; false, "a folder was not opened"),
+    }
+}
+
+/// A writer that takes all bytes, and fails to hand them on.
+#[derive(Drop)]
+struct Unflushed;
+
+impl Write for Unflushed {
+    fn write(&mut self, piece: &[u8]) -> io::Result<usize> {
+        Ok(piece.len())
+    }
+
+    fn flush(&mut self) -> io::Result<()> {
+        Err(io::Error::from(ErrorKind::StorageFull))
+    }
+}
+
+#[test]
+fn a_flush_that_fails_is_a_fault(rt: HostRuntime) {
+    let mut sink = RealSink::new(Unflushed);
+    assert!(rt; !put_all(&mut sink, TEXT.as_bytes()));
 }

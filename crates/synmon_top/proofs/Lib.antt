@@ -1,10 +1,6 @@
-mod Causes
-mod Endings
-mod Lines
-mod Parts
-mod Printing
-mod Reports
-mod Saying
-mod Telling
-mod Unique
-mod Sources
+pub mod Telling
+pub mod Sources
+pub mod Joining
+pub mod Outcomes
+pub mod Deciding
+pub mod Statuses

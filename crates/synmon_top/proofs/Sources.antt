@@ -8,7 +8,7 @@ use Rattle.language_theory.proofs.Minimal.{agreeing_minimal}
 use Rattle.language_theory.proofs.Representatives.{agreeing_classes}
 use Rattle.automaton_file.specs.FileText.{SourceText, BodyText, OfAutomaton, OfExpression, IsSoundBody, IsSoundSource, IsBodyAutomaton, language_of}
 use Rattle.automaton_file.proofs.SameAutomata.{one_body_automaton, same_subsets}
-use Rattle.synmon_top.specs.Report.{HasMoreSubsets}
+use Rattle.synmon_top.specs.Reports.{HasMoreSubsets}
 
 -- the letters of a body's automaton are those of the alphabet
 body_letters : (k : ℕ) (body : BodyText) (m : Automaton) → IsSoundBody k body → IsBodyAutomaton k body m → m.letters ≡ k

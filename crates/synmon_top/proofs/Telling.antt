@@ -39,8 +39,8 @@ tells_front f xs i d part a b c m n o below same before off count rose =
     ∙ ap concat (sym (map-append f (take (i + 1) xs) (drop (i + 1) xs)))
     ∙ ap (λ l. concat (map f l)) (take-append-drop (i + 1) xs) in
     record {
-      said = front ++ off.front;
-      told = Appends-trans a b c front off.front before off.written;
+      told = front ++ off.front;
+      gained = Appends-trans a b c front off.front before off.written;
       whole = inr (
         (
           off.rest ++ behind,

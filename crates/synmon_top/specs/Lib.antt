@@ -1,7 +1,5 @@
-pub mod Causes
-pub mod Endings
-pub mod Line
+pub mod Sections
+pub mod Answers
+pub mod Reports
 pub mod Outcome
-pub mod Report
-pub mod Saying
-pub mod Text
+pub mod Causes

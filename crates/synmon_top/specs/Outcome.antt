@@ -1,73 +1,126 @@
--- What a run may answer, and what it then wrote.
-use Rattle.std.specs.Prelude.{◌≡◌, ◌⊎◌, ℕ, List, [], ◌++◌, codes, Option, Some, None, ⊤}
+-- How a run may end, and what it then wrote.
+use Rattle.std.specs.Prelude.{◌≡◌, ◌⊎◌, ℕ, ◌+◌, true, false, List, [], ◌++◌, codes, Option, Some, None, ⊤}
 use Rattle.std.specs.Fmt.{decimal}
 use Rattle.std.specs.Io.KnownBytes.{Appends}
 use Rattle.syn_outside.specs.Counts.{Rose}
-use Rattle.syn_outside.specs.NamedFiles.{NamedFiles, bytes_of}
-use Rattle.automaton_file.specs.FileText.{IsRefusal}
-use Rattle.synmon_top.specs.Line.{Request, IsLine, AreAccepted}
-use Rattle.synmon_top.specs.Report.{IsReportOn, IsStopOn}
+use Rattle.syn_outside.specs.NamedFiles.{NamedFiles, bytes_of, HasFront}
+use Rattle.automaton_file.specs.FileText.{most_bytes}
+use Rattle.command_line.specs.declared.fault.LineFault.{LineFault}
+use Rattle.command_line.specs.declared.fault.LineFault.TheVariants as line
+use Rattle.command_line.specs.declared.request.Request.{Request}
+use Rattle.command_line.specs.Line.{IsLine, IsAccepted}
+use Rattle.synmon_top.specs.Sections.{Said}
+use Rattle.synmon_top.specs.Reports.{Verdict, said, stopped, refused, IsVerdict, task_of}
+use Rattle.synmon_top.specs.declared.ending.Ending.{Ending}
+use Rattle.synmon_top.specs.declared.ending.Ending.TheVariants as ending
+use Rattle.synmon_top.specs.declared.ending.Stop.{Stop}
+use Rattle.synmon_top.specs.declared.ending.Stop.TheVariants as stop
 
--- a text begins with `front`
-abbrev pub BeginsWith : List ℕ → List ℕ → Type 0
-BeginsWith text front = (rest : List ℕ) × (front ++ rest ≡ text)
+-- The table of endings: the exit status of each.
+abbrev pub status_of : Ending → ℕ
+status_of ending.Whole = 0
+status_of ending.BadLine = 2
+status_of ending.CannotRead = 3
+status_of (ending.Refused at code) = 4
+status_of (ending.Stopped stop) = 5
+status_of ending.Limited = 5
+status_of ending.CannotWrite = 6
+status_of ending.NoMemory = 7
 
--- The bytes that a run is about: where the files are told, those of the operand's name, and none where no file has it.
-abbrev pub AreBytesFor : Option NamedFiles → List (List ℕ) → Option (List ℕ) → Type 0
-AreBytesFor None words bytes = ⊤
-AreBytesFor (Some files) words bytes = (request : Request) → IsLine words request → bytes ≡ bytes_of request.operand files
+-- the count that passed its limit, and the limit
+abbrev pub stop_text : Stop → List ℕ
+stop_text (stop.Subsets n) = codes "subsets " ++ decimal n
+stop_text (stop.Elements n) = codes "elements " ++ decimal n
 
--- the text that is defined where the words and the bytes are accepted and the sets of states are not too many
-pub record IsText (words : List (List ℕ)) (bytes : Option (List ℕ)) (text : List ℕ) : Type 0 where
+-- The table of endings: the line of each for `errs`.
+abbrev pub line_of : Ending → List ℕ
+line_of ending.Whole = []
+line_of ending.BadLine = codes "synmon: bad command line\n"
+line_of ending.CannotRead = codes "synmon: cannot read\n"
+line_of (ending.Refused at code) = codes "synmon: line " ++ decimal at ++ codes " code " ++ decimal code ++ codes "\n"
+line_of (ending.Stopped stop) = codes "synmon: limit " ++ stop_text stop ++ codes "\n"
+line_of ending.Limited = []
+line_of ending.CannotWrite = codes "synmon: cannot write\n"
+line_of ending.NoMemory = codes "synmon: out of memory\n"
+
+-- the bytes that a request is about: where the files are told, those of its operand's name
+abbrev pub AreBytesOf : Option NamedFiles → Request → List ℕ → Type 0
+AreBytesOf None request bytes = ⊤
+AreBytesOf (Some files) request bytes = bytes_of request.operand files ≡ Some bytes
+
+-- the words are a line, and this is the verdict on the bytes that it is about
+pub record IsDue (held : Option NamedFiles) (words : List (List ℕ)) (verdict : Verdict) : Type 0 where
   pub request : Request
   pub line : IsLine words request
-  pub file : List ℕ
-  pub told : bytes ≡ Some file
-  pub report : IsReportOn file request.subsets text
+  pub bytes : List ℕ
+  pub about : AreBytesOf held request bytes
+  pub holds : IsVerdict bytes (task_of request) verdict
 
--- the words are accepted, and the bytes spell a source with more sets of states than the words allow
-pub record IsStop (words : List (List ℕ)) (bytes : Option (List ℕ)) (subsets : ℕ) : Type 0 where
-  pub request : Request
-  pub line : IsLine words request
-  pub number : subsets ≡ request.subsets
-  pub file : List ℕ
-  pub told : bytes ≡ Some file
-  pub stop : IsStopOn file request.subsets
+-- a text begins with `prefix`
+abbrev pub IsPrefix : List ℕ → List ℕ → Type 0
+IsPrefix prefix text = (rest : List ℕ) × (prefix ++ rest ≡ text)
 
--- the line of a refusal
-abbrev pub refusal_line : ℕ → ℕ → List ℕ
-refusal_line at code = codes "synmon: line " ++ decimal at ++ codes " code " ++ decimal code ++ codes "\n"
+-- a prefix of the text that is due
+abbrev pub BeginsDue : Option NamedFiles → List (List ℕ) → List ℕ → Type 0
+BeginsDue held words out = (text : Said) × IsDue held words (said text) × IsPrefix out text.text
 
--- the line of a limit on the sets of states
-abbrev pub limit_line : ℕ → List ℕ
-limit_line subsets = codes "synmon: limit subsets " ++ decimal subsets ++ codes "\n"
+-- The table of endings: what holds of the files, of the words, and of what `out` gained.
+abbrev pub Outcome : Option NamedFiles → List (List ℕ) → Ending → List ℕ → Type 0
+Outcome held words ending.Whole out = IsDue held words (said (record { text = out; limited = false }))
+Outcome held words ending.BadLine out = (¬ IsAccepted words) × (out ≡ [])
+Outcome held words ending.CannotRead out = IsAccepted words × (out ≡ [])
+Outcome held words (ending.Refused at code) out = IsDue held words (refused at code) × (out ≡ [])
+Outcome held words (ending.Stopped stop) out = IsDue held words (stopped stop) × (out ≡ [])
+Outcome held words ending.Limited out = IsDue held words (said (record { text = out; limited = true }))
+Outcome held words ending.CannotWrite out = BeginsDue held words out
+Outcome held words ending.NoMemory out = (out ≡ []) ⊎ BeginsDue held words out
 
--- The table of outcomes, a constructor for each row: the status, what `out` gained, and the line for `errs`.
-pub data Outcome (words : List (List ℕ)) (bytes : Option (List ℕ)) (status : ℕ) (out line : List ℕ) : Type 0 where
-  whole : status ≡ 0 → IsText words bytes out → line ≡ [] → Outcome words bytes status out line
-  bad_line : status ≡ 2 → ¬ AreAccepted words → out ≡ [] → line ≡ codes "synmon: bad command line\n" → Outcome words bytes status out line
-  cannot_read : status ≡ 3 → AreAccepted words → out ≡ [] → line ≡ codes "synmon: cannot read\n" → Outcome words bytes status out line
-  refused : (file : List ℕ) (at code : ℕ) → status ≡ 4 → AreAccepted words → bytes ≡ Some file → IsRefusal file at code → out ≡ [] → line ≡ refusal_line at code → Outcome words bytes status out line
-  stopped : (subsets : ℕ) → status ≡ 5 → IsStop words bytes subsets → out ≡ [] → line ≡ limit_line subsets → Outcome words bytes status out line
-  cannot_write : (text : List ℕ) → status ≡ 6 → IsText words bytes text → BeginsWith text out → line ≡ codes "synmon: cannot write\n" → Outcome words bytes status out line
-  no_memory : status ≡ 7 → (out ≡ []) ⊎ ((text : List ℕ) × IsText words bytes text × BeginsWith text out) → line ≡ codes "synmon: out of memory\n" → Outcome words bytes status out line
+-- how a run ends where the words ask for nothing
+abbrev pub ending_of_fault : LineFault → Ending
+ending_of_fault line.Words = ending.BadLine
+ending_of_fault line.Command = ending.BadLine
+ending_of_fault (line.Number place) = ending.BadLine
+ending_of_fault line.Memory = ending.NoMemory
 
--- a sink gained a line, or a front of it where its count of faults rose
+-- the endings that the words and the bytes decide: those that no device and no want of memory brings about
+abbrev pub IsDecided : Ending → Type 0
+IsDecided ending.Whole = ⊤
+IsDecided ending.BadLine = ⊤
+IsDecided ending.CannotRead = ⊥
+IsDecided (ending.Refused at code) = ⊤
+IsDecided (ending.Stopped stop) = ⊤
+IsDecided ending.Limited = ⊤
+IsDecided ending.CannotWrite = ⊥
+IsDecided ending.NoMemory = ⊥
+
+-- a sink gained a line, or a prefix of it where its count of faults rose
 pub record IsTold (old new : Option (List ℕ)) (faults_old faults_new : ℕ) (line : List ℕ) : Type 0 where
-  pub said : List ℕ
-  pub told : Appends old new said
-  pub whole : (said ≡ line) ⊎ (BeginsWith line said × Rose faults_old faults_new)
+  pub told : List ℕ
+  pub gained : Appends old new told
+  pub whole : (told ≡ line) ⊎ (IsPrefix told line × Rose faults_old faults_new)
 
--- The outcome of a run: the bytes that it was about, what `out` gained, and the line of which `errs` gained all, or a front where its count of faults rose.
-pub record Runs (held : Option NamedFiles) (words : List (List ℕ)) (status : ℕ) (out_old out_new errs_old errs_new : Option (List ℕ)) (faults_old faults_new : ℕ) : Type 0 where
-  pub bytes : Option (List ℕ)
-  pub about : AreBytesFor held words bytes
+-- a run ended so, and `out` gained what the table says
+pub record Ends (held : Option NamedFiles) (words : List (List ℕ)) (end : Ending) (old new : Option (List ℕ)) : Type 0 where
   pub out : List ℕ
-  pub line : List ℕ
-  pub outcome : Outcome words bytes status out line
-  pub wrote : Appends out_old out_new out
-  pub told : IsTold errs_old errs_new faults_old faults_new line
+  pub outcome : Outcome held words end out
+  pub gained : Appends old new out
 
--- the statuses that the words and the bytes decide
-abbrev pub IsDecided : ℕ → Type 0
-IsDecided status = (status ≡ 0) ⊎ (status ≡ 2) ⊎ (status ≡ 4) ⊎ (status ≡ 5)
+-- The outcome of a run: how it ended, with which status, and what `errs` was told of it.
+pub record Runs (held : Option NamedFiles) (words : List (List ℕ)) (status : ℕ) (old new errs_old errs_new : Option (List ℕ)) (faults_old faults_new : ℕ) : Type 0 where
+  pub end : Ending
+  pub ends : Ends held words end old new
+  pub answer : status ≡ status_of end
+  pub told : IsTold errs_old errs_new faults_old faults_new (line_of end)
+
+-- a sink gained a prefix of a text
+pub record IsGivenPrefix (old new : Option (List ℕ)) (text : List ℕ) : Type 0 where
+  pub prefix : List ℕ
+  pub gained : Appends old new prefix
+  pub begins : IsPrefix prefix text
+
+-- the work for a request on the bytes that were read ended so, and `out` gained what the table says
+pub record EndsOn (bytes : List ℕ) (request : Request) (end : Ending) (old new : Option (List ℕ)) : Type 0 where
+  pub out : List ℕ
+  pub outcome : (held : Option NamedFiles) (words : List (List ℕ)) → IsLine words request
+      → HasFront held request.operand (most_bytes + 1) bytes → Outcome held words end out
+  pub gained : Appends old new out

@@ -1,13 +1,18 @@
 //! How a run ends, and what the user is told of it.
-ghost use Rattle.std.specs.Prelude.{◌≡◌, ◌⊎◌, ◌≤◌, false, true, map};
+ghost use Rattle.std.specs.Prelude.{◌≡◌, ◌++◌, ◌≤◌, codes, decimal, map};
 ghost use Rattle.std.specs.List.{concat};
-ghost use Rattle.std.specs.Io.KnownBytes.{Appends};
-ghost use Rattle.syn_outside.specs.Counts.{Rose};
-ghost use Rattle.syn_outside.specs.Sinks.{IsCutOff};
-ghost use Rattle.synmon_top.specs.Endings.{status_of, line_of};
-ghost use Rattle.synmon_top.specs.Outcome.{IsTold, refusal_line, limit_line};
+ghost use Rattle.synmon_top.specs.Outcome.{IsTold, status_of, line_of, stop_text};
 
 use syn_outside::{Sink, put_all};
+
+/// A count that passed its limit before a section was made, and the limit.
+#[derive(Clone, Copy, Debug, PartialEq, Eq)]
+pub enum Stop {
+    /// Words lead to more sets of states than this many.
+    Subsets(u32),
+    /// The syntactic monoid has more elements than this many.
+    Elements(u32),
+}
 
 /// How a run ended.
 #[derive(Clone, Copy, Debug, PartialEq, Eq)]
@@ -18,10 +23,12 @@ pub enum Ending {
     BadLine,
     /// The file was not read.
     CannotRead,
-    /// The file spells no source.
+    /// The file spells no source: the line, and the code of the test that fails there.
     Refused(u32, u8),
-    /// Words lead to more sets of states than this many, which is all that the line allows.
-    SubsetLimit(u32),
+    /// A count passed its limit, and there is no text.
+    Stopped(Stop),
+    /// The whole text is written, and a section of it tells a limit.
+    Limited,
     /// The text was not written to its end.
     CannotWrite,
     /// The system gave no memory.
@@ -38,24 +45,25 @@ impl Ending {
             Ending::BadLine => 2,
             Ending::CannotRead => 3,
             Ending::Refused(_, _) => 4,
-            Ending::SubsetLimit(_) => 5,
+            Ending::Stopped(_) | Ending::Limited => 5,
             Ending::CannotWrite => 6,
             Ending::NoMemory => 7,
         }
     }
 }
 
-/// Writes the line of an ending. Where the sink fails, a front of the line is written.
+/// Writes the line of an ending. Where the sink fails, a prefix of the line is written.
 pub fn tell<E: Sink>(errs: &mut E, ending: Ending)
     ensures told { IsTold (E.written errs.old) (E.written errs.new) (E.faults errs.old) (E.faults errs.new) (line_of ending) }
     ensures count { E.faults errs.old ≤ E.faults errs.new }
 {
     match ending {
-        Ending::Whole => {}
+        Ending::Whole | Ending::Limited => {}
         Ending::BadLine => tell_parts(errs, &["synmon: bad command line\n"]),
         Ending::CannotRead => tell_parts(errs, &["synmon: cannot read\n"]),
         Ending::Refused(line, code) => tell_refusal(errs, line, code),
-        Ending::SubsetLimit(subsets) => tell_limit(errs, subsets),
+        Ending::Stopped(Stop::Subsets(most)) => tell_stop(errs, "subsets ", most),
+        Ending::Stopped(Stop::Elements(most)) => tell_stop(errs, "elements ", most),
         Ending::CannotWrite => tell_parts(errs, &["synmon: cannot write\n"]),
         Ending::NoMemory => tell_parts(errs, &["synmon: out of memory\n"]),
     }
@@ -63,7 +71,7 @@ pub fn tell<E: Sink>(errs: &mut E, ending: Ending)
 
 /// Writes the line and the code of a refusal.
 fn tell_refusal<E: Sink>(errs: &mut E, line: u32, code: u8)
-    ensures told { IsTold (E.written errs.old) (E.written errs.new) (E.faults errs.old) (E.faults errs.new) (refusal_line line code) }
+    ensures told { IsTold (E.written errs.old) (E.written errs.new) (E.faults errs.old) (E.faults errs.new) (codes "synmon: line " ++ decimal line ++ codes " code " ++ decimal code ++ codes "\n") }
     ensures count { E.faults errs.old ≤ E.faults errs.new }
 {
     let mut line_digits = itoa::Buffer::new();
@@ -73,16 +81,13 @@ fn tell_refusal<E: Sink>(errs: &mut E, line: u32, code: u8)
     tell_parts(errs, &["synmon: line ", line, " code ", code, "\n"])
 }
 
-/// Writes the line of a limit on the sets of states.
-fn tell_limit<E: Sink>(errs: &mut E, subsets: u32)
-    ensures told { IsTold (E.written errs.old) (E.written errs.new) (E.faults errs.old) (E.faults errs.new) (limit_line subsets) }
+/// Writes which count passed its limit, and the limit.
+fn tell_stop<E: Sink>(errs: &mut E, count: &str, most: u32)
+    ensures told { IsTold (E.written errs.old) (E.written errs.new) (E.faults errs.old) (E.faults errs.new) (codes "synmon: limit " ++ (count.now ++ decimal most) ++ codes "\n") }
     ensures count { E.faults errs.old ≤ E.faults errs.new }
 {
     let mut digits = itoa::Buffer::new();
-    tell_parts(
-        errs,
-        &["synmon: limit subsets ", digits.format(subsets), "\n"],
-    )
+    tell_parts(errs, &["synmon: limit ", count, digits.format(most), "\n"])
 }
 
 /// Writes the parts of a line, one after another until the sink fails.

@@ -1,10 +1,19 @@
 //! Laws of outcomes.
 
-ghost use Rattle.std.specs.Prelude.{◌≡◌, ℕ, List, Option};
+ghost use Rattle.std.specs.Prelude.{◌≡◌, ℕ, List, Option, Some};
+ghost use Rattle.syn_outside.specs.NamedFiles.{NamedFiles};
+ghost use Rattle.command_line.specs.declared.request.Request.{Request};
+ghost use Rattle.command_line.specs.Line.{IsLine};
 ghost use Rattle.synmon_top.specs.Outcome.{Outcome, IsDecided};
+ghost use Rattle.synmon_top.specs.declared.ending.Ending.{Ending};
 
-/// The words and the bytes decide the outcome: of the statuses 0, 2, 4 and 5 only one can come, with one text and one
-/// line.
+/// The files and the words decide the outcome: of the endings that no device and no want of memory brings about, only
+/// one can come, with one text.
 pub fn the_outcome_is_unique()
-    ensures { (words : List (List ℕ)) (bytes : Option (List ℕ)) (s t : ℕ) (out other line more : List ℕ) → Outcome words bytes s out line → Outcome words bytes t other more → IsDecided s → IsDecided t → (s ≡ t) × (out ≡ other) × (line ≡ more) }
+    ensures { (files : NamedFiles) (words : List (List ℕ)) (e f : Ending) (out other : List ℕ) → Outcome (Some files) words e out → Outcome (Some files) words f other → IsDecided e → IsDecided f → (e ≡ f) × (out ≡ other) }
+{}
+
+/// Lines whose requests differ in the number of workers alone have the same outcomes.
+pub fn workers_change_no_outcome()
+    ensures { (held : Option NamedFiles) (words others : List (List ℕ)) (r s : Request) → IsLine words r → IsLine others s → r ≡ record s { workers = r.workers } → (e : Ending) (out : List ℕ) → Outcome held words e out → Outcome held others e out }
 {}

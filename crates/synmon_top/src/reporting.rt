@@ -1,27 +1,30 @@
 //! The report on a file.
-ghost use Rattle.std.specs.Prelude.{◌≡◌, ◌≤◌, [], false, length, IfOk, IsErrOf, OnOk, OnErr};
+ghost use Rattle.std.specs.Prelude.{◌≡◌, ◌≢◌, ◌≤◌, length, IfOk, IsErrOf, OnOk, OnErr};
 ghost use Rattle.std.specs.Io.KnownBytes.{Appends};
 ghost use Rattle.language_theory.specs.Nerode.{IsMinimal};
 ghost use Rattle.syn_outside.specs.Counts.{Rose};
 ghost use Rattle.automaton_file.specs.FileText.{source_text, body_text, language_of, IsSoundSource, CanBuild};
-ghost use Rattle.synmon_top.specs.Report.{HasMoreSubsets};
-ghost use Rattle.synmon_top.specs.Endings.{Reports, IsGivenFront};
-ghost use Rattle.synmon_top.specs.Text.{automaton_text};
+ghost use Rattle.command_line.specs.Line.{IsInRange};
+ghost use Rattle.synmon_top.specs.Answers.{AreValues, values_of, said_of_all};
+ghost use Rattle.synmon_top.specs.Reports.{HasMoreSubsets};
+ghost use Rattle.synmon_top.specs.Outcome.{EndsOn, IsGivenPrefix};
 
-use crate::buffer::{Buffer, SayFault, flush};
-use crate::ending::Ending;
-use crate::section::say_automaton;
+use crate::answers::{Answer, Values, answer_sections, have_limit, say_answers};
+use crate::ending::{Ending, Stop};
+use crate::sections::sections_of;
 use automaton_file::{FileFault, Source, body_nfa, read_file};
+use command_line::Request;
+use report_text::{Buffer, SayFault, flush};
 use std::alloc::Global;
 use subset_minimal::{MinDfa, MinFault, minimal};
 use syn_outside::Sink;
-use syn_words::Alphabet;
 
-/// Writes the text about the source that the bytes spell, if they spell one and words lead to at most `max_subsets`
-/// distinct sets of its automaton's states. Condition: `max_subsets <= 4096`.
-pub fn report<O: Sink>(alloc: Global, bytes: &[u8], max_subsets: u32, out: &mut O) -> Ending
-    requires { max_subsets ≤ 4096 }
-    ensures ends { Reports bytes.now max_subsets result (O.written out.old) (O.written out.new) }
+/// Writes what a request asks for about the source that the bytes spell. Condition: its numbers are in the ranges of their
+/// options.
+pub(crate) fn report<O: Sink>(alloc: Global, bytes: &[u8], request: &Request, out: &mut O) -> Ending
+    requires { IsInRange request.now }
+    ensures ends { EndsOn bytes.now request.now result (O.written out.old) (O.written out.new) }
+    ensures read { result ≢ Ending.CannotRead }
     ensures failed { result ≡ Ending.CannotWrite → Rose (O.faults out.old) (O.faults out.new) }
     ensures count { O.faults out.old ≤ O.faults out.new }
 {
@@ -30,12 +33,21 @@ pub fn report<O: Sink>(alloc: Global, bytes: &[u8], max_subsets: u32, out: &mut 
         Err(FileFault::Refused(refusal)) => return Ending::Refused(refusal.line, refusal.code),
         Err(FileFault::Memory) => return Ending::NoMemory,
     };
-    let dfa = match minimal_of(alloc, &source, max_subsets) {
+    let dfa = match minimal_of(alloc, &source, request.subsets) {
         Ok(dfa) => dfa,
-        Err(MinFault::SubsetLimit) => return Ending::SubsetLimit(max_subsets),
+        Err(MinFault::SubsetLimit) => return Ending::Stopped(Stop::Subsets(request.subsets)),
         Err(MinFault::Memory) => return Ending::NoMemory,
     };
-    match print(alloc, &source.alphabet, &dfa, out) {
+    let values = Values {
+        source: &source,
+        dfa: &dfa,
+    };
+    let Ok(answers) = answer_sections(alloc, sections_of(request.command), &values) else {
+        return Ending::NoMemory;
+    };
+    let all = answers.as_slice();
+    match print(alloc, &values, all, out) {
+        Ok(()) if have_limit(all, &values) => Ending::Limited,
         Ok(()) => Ending::Whole,
         Err(SayFault::Write) => Ending::CannotWrite,
         Err(SayFault::Memory) => Ending::NoMemory,
@@ -55,39 +67,16 @@ fn minimal_of(alloc: Global, source: &Source, max_subsets: u32) -> Result<MinDfa
     minimal(alloc, &nfa, max_subsets)
 }
 
-/// Writes the section of a minimal automaton.
-fn print<O: Sink>(
-    alloc: Global,
-    alphabet: &Alphabet,
-    dfa: &MinDfa,
-    out: &mut O,
-) -> Result<(), SayFault>
-    requires { dfa.now.graph.letters ≡ length alphabet.now }
-    ensures whole { OnOk result (Appends (O.written out.old) (O.written out.new) (automaton_text alphabet.now dfa.now)) }
-    ensures cut { OnErr result (IsGivenFront (O.written out.old) (O.written out.new) (automaton_text alphabet.now dfa.now)) }
+/// Writes the sections of the answers.
+fn print<O: Sink>(alloc: Global, values: &Values<'_>, answers: &[Answer], out: &mut O) -> Result<(), SayFault>
+    requires { AreValues (values_of values.now) }
+    ensures whole { OnOk result (Appends (O.written out.old) (O.written out.new) (said_of_all (values_of values.now) answers.now).text) }
+    ensures cut { OnErr result (IsGivenPrefix (O.written out.old) (O.written out.new) (said_of_all (values_of values.now) answers.now).text) }
     ensures failed { IsErrOf result SayFault.Write → Rose (O.faults out.old) (O.faults out.new) }
     ensures count { O.faults out.old ≤ O.faults out.new }
 {
     let mut buffer = Buffer::new(alloc)?;
-    print_automaton(out, &mut buffer, alphabet, dfa)?;
-    Ok(())
-}
-
-/// Says the section of a minimal automaton into an empty buffer, and writes it.
-fn print_automaton<O: Sink>(
-    out: &mut O,
-    buffer: &mut Buffer,
-    alphabet: &Alphabet,
-    dfa: &MinDfa,
-) -> Result<(), SayFault>
-    requires letters { dfa.now.graph.letters ≡ length alphabet.now }
-    requires empty { buffer.old ≡ record { bytes = []; broken = false } }
-    ensures whole { OnOk result (Appends (O.written out.old) (O.written out.new) (automaton_text alphabet.now dfa.now)) }
-    ensures cut { OnErr result (IsGivenFront (O.written out.old) (O.written out.new) (automaton_text alphabet.now dfa.now)) }
-    ensures failed { IsErrOf result SayFault.Write → Rose (O.faults out.old) (O.faults out.new) }
-    ensures count { O.faults out.old ≤ O.faults out.new }
-{
-    say_automaton(out, buffer, alphabet, dfa)?;
-    flush(out, buffer)?;
+    say_answers(alloc, out, &mut buffer, values, answers)?;
+    flush(out, &mut buffer)?;
     Ok(())
 }

@@ -1,0 +1,2 @@
+pub mod OptionRows
+pub mod Lines

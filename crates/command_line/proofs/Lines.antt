@@ -1,0 +1,74 @@
+-- The words of a line ask for one request.
+use Rattle.std.proofs.Common.{◌≡◌, ◌∙◌, ◌<◌, ◌≤◌, ◌^◌, ℕ, List, Option, Some, length, get_or, refl, sym, ap, arith, subst}
+use Rattle.std.specs.Fmt.{decimal}
+use Rattle.std.proofs.lemmas.Fmt.{decimal_injective}
+use Rattle.clap.specs.Words.{Row}
+use Rattle.command_line.specs.declared.commands.Command.{Command}
+use Rattle.command_line.specs.declared.commands.Command.TheVariants as command
+use Rattle.command_line.specs.declared.fault.LineFault.{LineFault}
+use Rattle.command_line.specs.declared.fault.LineFault.TheVariants as fault
+use Rattle.command_line.specs.declared.request.Request.{Request}
+use Rattle.command_line.specs.Tables.{OptionRow, options, option_at, command_word}
+use Rattle.command_line.specs.Parsing.{rows_of_line}
+use Rattle.command_line.specs.Line.{IsTaken, IsLine, IsNumberIn, AreNumbersIn, IsFaultOf, IsInRange, numbers_of}
+
+-- the word of a command is no other's
+one_command : (c d : Command) → command_word c ≡ command_word d → c ≡ d
+one_command command.Automaton command.Automaton e = refl
+
+one_text : (o : Option (List ℕ)) (u v : List ℕ) → o ≡ Some u → o ≡ Some v → u ≡ v
+one_text o u v p q = let both : Some u ≡ Some v = sym p ∙ q in cc
+
+-- an option has one number
+one_number : (given : List Row) (option : OptionRow) (m n : ℕ) → option.most < 2 ^ 64
+    → IsNumberIn given option m → IsNumberIn given option n → m ≡ n
+one_number given option m n small p q =
+    decimal_injective m n (omega (arith, p.most, small)) (omega (arith, q.most, small)) (sym p.spelled ∙ q.spelled)
+
+number_at : (given : List Row) (r s : Request) (place : ℕ) → place < length options → (option_at place).most < 2 ^ 64
+    → AreNumbersIn given (numbers_of r) → AreNumbersIn given (numbers_of s)
+    → get_or (numbers_of r) place 0 ≡ get_or (numbers_of s) place 0
+number_at given r s place h small p q =
+    one_number given (option_at place) (get_or (numbers_of r) place 0) (get_or (numbers_of s) place 0) small (p place h) (q place h)
+
+request_of : Command → List ℕ → ℕ → ℕ → ℕ → ℕ → ℕ → ℕ → ℕ → Request
+request_of c name subsets elements table nodes level pairs workers = record {
+  command = c; operand = name; subsets = subsets; elements = elements; table = table; nodes = nodes; level = level; pairs = pairs; workers = workers;
+}
+
+pub one_request : (words : List (List ℕ)) (r s : Request) → IsLine words r → IsLine words s → r ≡ s
+unfolding request_of
+one_request words r s p q =
+    let given = rows_of_line words in
+    let c = one_command r.command s.command (one_text _ _ _ p.taken.first q.taken.first) in
+    let o = one_text _ _ _ p.taken.second q.taken.second in
+    let a : r.subsets ≡ s.subsets = number_at given r s 0 (omega arith) (omega arith) p.numbers q.numbers in
+    let b : r.elements ≡ s.elements = number_at given r s 1 (omega arith) (omega arith) p.numbers q.numbers in
+    let d : r.table ≡ s.table = number_at given r s 2 (omega arith) (omega arith) p.numbers q.numbers in
+    let e : r.nodes ≡ s.nodes = number_at given r s 3 (omega arith) (omega arith) p.numbers q.numbers in
+    let f : r.level ≡ s.level = number_at given r s 4 (omega arith) (omega arith) p.numbers q.numbers in
+    let g : r.pairs ≡ s.pairs = number_at given r s 5 (omega arith) (omega arith) p.numbers q.numbers in
+    let h : r.workers ≡ s.workers = number_at given r s 6 (omega arith) (omega arith) p.numbers q.numbers in
+    let whole : request_of r.command r.operand r.subsets r.elements r.table r.nodes r.level r.pairs r.workers
+        ≡ request_of s.command s.operand s.subsets s.elements s.table s.nodes s.level s.pairs s.workers = cc in
+    whole
+
+pub line_in_range : (words : List (List ℕ)) (r : Request) → IsLine words r → IsInRange r
+line_in_range words r line = record {
+  subsets = (line.numbers 0 (omega arith)).most;
+  elements = (line.numbers 1 (omega arith)).most;
+  table = (line.numbers 2 (omega arith)).most;
+  nodes = (line.numbers 3 (omega arith)).most;
+  level = (line.numbers 4 (omega arith)).most;
+  pairs = (line.numbers 5 (omega arith)).most;
+  least_workers = (line.numbers 6 (omega arith)).least;
+  workers = (line.numbers 6 (omega arith)).most;
+}
+
+pub line_without_fault : (words : List (List ℕ)) (r : Request) (f : LineFault) → IsLine words r → IsFaultOf words f → f ≡ fault.Memory
+line_without_fault words r fault.Words line h = absurd (h (command_word r.command) r.operand line.taken)
+line_without_fault words r fault.Command line h =
+    absurd (h.unknown r.command (one_text _ _ _ h.taken.first line.taken.first))
+line_without_fault words r (fault.Number place) line h =
+    absurd (h.first.bad (get_or (numbers_of r) place 0) (line.numbers place h.first.within))
+line_without_fault words r fault.Memory line h = refl

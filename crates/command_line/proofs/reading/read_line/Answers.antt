@@ -1,0 +1,39 @@
+use Rattle.std.proofs.Common.{◌≡◌, ◌∙◌, ℕ, List, Some, sym, ap, map, Global, refl, subst}
+use Rattle.std.specs.Prelude.{string_bytes, codes}
+use Rattle.std.proofs.lemmas.Result.{err_from_is_err_and}
+use Rattle.clap.specs.Words.{Row, first_of, found_of, rows_of}
+use Rattle.command_line.specs.Parsing.{rows_of_line}
+use Rattle.command_line.specs.Line.{IsFaultOf, IsFirstBad, IsBadNumber}
+use Rattle.command_line.specs.declared.fault.LineFault.{LineFault}
+use Rattle.command_line.proofs.reading.read_line.Goals as goal
+
+pub returns-in_default-command_of-clause-fault : goal.returns-in_default-command_of-clause-fault
+returns-in_default-command_of-clause-fault c =
+    let given : rows_of (found_of c.in_ok-matches.matches) ≡ rows_of_line (map (string_bytes {Z = Global}) c.args.words.now) = c.in_ok-matches.ensures.found in
+    record {
+      word = c.in-Some.word.now;
+      operand = c.in-Some-value_of.operand.now;
+      taken = record {
+        faultless = c.in_ok-matches.ensures.taken;
+        first = rw (← given) (sym c.in-Some.ensures);
+        second = rw (← given) (sym c.in-Some-value_of.ensures);
+      };
+      unknown = c.in_default-command_of.ensures.none refl;
+    }
+
+pub returns-in_err-numbers-clause-fault : goal.returns-in_err-numbers-clause-fault
+returns-in_err-numbers-clause-fault c =
+    let given : rows_of (found_of c.in_ok-matches.matches) ≡ rows_of_line (map (string_bytes {Z = Global}) c.args.words.now) = c.in_ok-matches.ensures.found in
+    let bad = c.in_err-numbers.ensures.number in
+    let p = err_from_is_err_and c.from_residual-in_err-numbers.result c.from_residual-in_err-numbers.ensures.1 in
+    let P : LineFault → Type 0 = λ fault. IsFaultOf (map (string_bytes {Z = Global}) c.args.words.now) fault in
+    rw (p.1, p.2) (subst P (sym bad.1) (record {
+      command = c.in-Some-command_of.command;
+      operand = c.in-Some-value_of.operand.now;
+      taken = record {
+        faultless = c.in_ok-matches.ensures.taken;
+        first = rw (← given) (sym c.in-Some.ensures ∙ ap Some c.in-Some-command_of.ensures.some);
+        second = rw (← given) (sym c.in-Some-value_of.ensures);
+      };
+      first = rw (← given) bad.2;
+    }))

@@ -1,0 +1,34 @@
+-- The table of options and the table of commands.
+use Rattle.std.specs.Prelude.{ℕ, List, [], ◌∷◌, codes, slice_index_or}
+use Rattle.command_line.specs.declared.commands.Command.{Command}
+use Rattle.command_line.specs.declared.commands.Command.TheVariants as command
+
+-- an option: its word behind the two dashes, its smallest number, its number where it is not given, and its largest
+pub record OptionRow : Type 0 where
+  pub word : List ℕ
+  pub least : ℕ
+  pub usual : ℕ
+  pub most : ℕ
+
+abbrev pub row : List ℕ → ℕ → ℕ → ℕ → OptionRow
+row word least usual most = record { word = word; least = least; usual = usual; most = most }
+
+-- the options, in their order
+abbrev pub options : List OptionRow
+options =
+    row (codes "subsets") 1 2000 4096
+    ∷ row (codes "elements") 1 10000 50000
+    ∷ row (codes "table") 1 2000 8000
+    ∷ row (codes "nodes") 1 200000 1000000
+    ∷ row (codes "level") 1 6 12
+    ∷ row (codes "pairs") 1 20000 100000
+    ∷ row (codes "workers") 1 1 64
+    ∷ []
+
+-- the option at a place
+abbrev pub option_at : ℕ → OptionRow
+option_at place = slice_index_or options place (row [] 0 0 0)
+
+-- the word of each command
+abbrev pub command_word : Command → List ℕ
+command_word command.Automaton = codes "automaton"

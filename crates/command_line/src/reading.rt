@@ -1,0 +1,88 @@
+//! Reading a line.
+ghost use Rattle.std.specs.Prelude.{◌≡◌, ◌≤◌, ◌∷◌, ℕ, [], map, decimal, string_bytes, IfOk, IfErr, IfSome, IsNone};
+ghost use Rattle.clap.specs.Words.{found_of, rows_of};
+ghost use Rattle.command_line.specs.Tables.{row, option_at};
+ghost use Rattle.command_line.specs.Line.{IsLine, IsNumberIn, AreNumbersIn, IsFirstBad, IsFaultOf, IsInRange};
+
+use crate::commands::command_of;
+use crate::fault::LineFault;
+use crate::options::{OPTION_COUNT, OptionRow, option_at};
+use crate::parsing::{parse, value_of};
+use crate::request::{Name, Request};
+use clap::ArgMatches;
+use std::alloc::Global;
+
+/// What the words after the program's name ask for. A fault comes exactly where the words have it, and none that stands
+/// before it in `LineFault`.
+pub fn read_line(alloc: Global, words: &[String]) -> Result<Request, LineFault>
+    ensures line { IfOk result (λ request. IsLine (map string_bytes words.now) request) }
+    ensures range { IfOk result IsInRange }
+    ensures fault { IfErr result (IsFaultOf (map string_bytes words.now)) }
+{
+    let matches = parse(alloc, words)?;
+    let Some(word) = value_of(&matches, "command") else {
+        return Err(LineFault::Words);
+    };
+    let Some(operand) = value_of(&matches, "operand") else {
+        return Err(LineFault::Words);
+    };
+    let Some(command) = command_of(word) else {
+        return Err(LineFault::Command);
+    };
+    let numbers = read_numbers(&matches)?;
+    let operand = Name::of(alloc, operand)?;
+    let [subsets, elements, table, nodes, level, pairs, workers] = numbers;
+    Ok(Request {
+        command,
+        operand,
+        subsets,
+        elements,
+        table,
+        nodes,
+        level,
+        pairs,
+        workers,
+    })
+}
+
+/// The number of each option, in the order of their table.
+fn read_numbers(matches: &ArgMatches<'_>) -> Result<[u32; OPTION_COUNT], LineFault>
+    ensures numbers { IfOk result (λ numbers. AreNumbersIn (rows_of (found_of matches.now)) numbers) }
+    ensures number { IfErr result (λ fault. (place : ℕ) × (fault ≡ LineFault.Number place) × IsFirstBad (rows_of (found_of matches.now)) place) }
+{
+    let mut numbers = [0; OPTION_COUNT];
+    for place in 0..OPTION_COUNT {
+        match read_option(matches, option_at(place)) {
+            Some(number) => numbers[place] = number,
+            None => return Err(LineFault::Number { option: place as u8 }),
+        }
+    }
+    Ok(numbers)
+}
+
+/// The number of an option. Condition: its usual number is in its range.
+fn read_option(matches: &ArgMatches<'_>, option: OptionRow) -> Option<u32>
+    requires least { option.least ≤ option.usual }
+    requires most { option.usual ≤ option.most }
+    ensures some { IfSome result (λ n. IsNumberIn (rows_of (found_of matches.now)) (row option.word.now option.least option.usual option.most) n) }
+    ensures none { IsNone result → (n : ℕ) → ¬ IsNumberIn (rows_of (found_of matches.now)) (row option.word.now option.least option.usual option.most) n }
+{
+    match value_of(matches, option.word) {
+        Some(text) => read_number(text, option.least, option.most),
+        None => Some(option.usual),
+    }
+}
+
+/// The number from `least` to `most` that a text is in decimal digits, without a leading zero.
+fn read_number(text: &str, least: u32, most: u32) -> Option<u32>
+    ensures some { IfSome result (λ n. text.now ≡ decimal n) }
+    ensures within { IfSome result (λ n. (least ≤ n) × (n ≤ most)) }
+    ensures none { IsNone result → (n : ℕ) → text.now ≡ decimal n → least ≤ n → ¬ (n ≤ most) }
+{
+    let number = text.parse::<u32>().ok()?;
+    let mut digits = itoa::Buffer::new();
+    if digits.format(number) != text || number < least || most < number {
+        return None;
+    }
+    Some(number)
+}

@@ -1,0 +1,25 @@
+-- How the parts of a line are written.
+use Rattle.std.specs.Prelude.{ℕ, zero, suc, Bool, cond, List, [], ◌∷◌, ◌++◌, codes, slice_index}
+use Rattle.std.specs.List.{flat_map}
+
+-- the texts of 0, 1, .., n - 1, one after another
+abbrev pub texts_below : (ℕ → List ℕ) → ℕ → List ℕ
+texts_below text zero = []
+texts_below text (suc n) = texts_below text n ++ text n
+
+-- a letter, where `signs` has the byte of each
+abbrev pub letter_text : List ℕ → ℕ → List ℕ
+letter_text signs a = slice_index signs a ∷ []
+
+-- letters, one after another
+abbrev pub letters_text : List ℕ → List ℕ → List ℕ
+letters_text signs letters = flat_map (letter_text signs) letters
+
+-- a word as its letters; the empty word is `1`
+abbrev pub word_text : List ℕ → List ℕ → List ℕ
+word_text signs [] = codes "1"
+word_text signs (a ∷ w) = letters_text signs (a ∷ w)
+
+-- whether words are in the language, or out of it
+abbrev pub membership_text : Bool → List ℕ
+membership_text is_in = cond is_in (codes "in") (codes "out")

@@ -1,0 +1,11 @@
+//! The text of a report's sections, on its way to a sink.
+#![tactic(auto)]
+
+mod automaton_section;
+mod buffer;
+mod rendering;
+#[cfg(test)]
+mod tests;
+
+pub use automaton_section::say_automaton;
+pub use buffer::{Buffer, SayFault, flush, say};

@@ -1,0 +1,204 @@
+-- From what the work on a file's bytes came to, to how a run ended.
+use Rattle.std.proofs.Common.{◌≡◌, ◌⊎◌, ℕ, ◌+◌, true, false, List, [], ◌++◌, map, Option, Some, None, Result, Ok, Err, inl, inr, refl, ap, ◌∙◌, subst, take, append-nil}
+use Rattle.std.specs.Prelude.{◌↔◌, OnErr}
+use Rattle.std.specs.Io.KnownBytes.{Appends}
+use Rattle.std.proofs.KnownBytes.{Appends-nil}
+use Rattle.syn_outside.specs.NamedFiles.{NamedFiles, bytes_of, HasFront}
+use Rattle.automaton_file.specs.FileText.{SourceText, IsSource, IsRefusal, language_of, most_bytes}
+use Rattle.automaton_file.proofs.SourceLaws.{front_spells, front_refused}
+use Rattle.command_line.specs.declared.commands.Command.{Command}
+use Rattle.command_line.specs.declared.commands.Command.TheVariants as command
+use Rattle.command_line.specs.declared.request.Request.{Request}
+use Rattle.command_line.specs.declared.fault.LineFault.{LineFault}
+use Rattle.command_line.specs.declared.fault.LineFault.TheVariants as line
+use Rattle.command_line.specs.Line.{IsLine, IsAccepted, IsFaultOf}
+use Rattle.command_line.proofs.Lines.{line_without_fault}
+use Rattle.synmon_top.specs.Sections.{Limits, Said, sections_of, limits_of, AreSections, AreSaid}
+use Rattle.synmon_top.specs.Answers.{Values, said_of, said_of_all}
+use Rattle.report_text.specs.Saying.{Channel, IsSaid, IsBrokenOff}
+use Rattle.report_text.proofs.Channels.{broken-after}
+use Rattle.synmon_top.specs.declared.sections.Section.{Section}
+use Rattle.synmon_top.specs.declared.answers.Answer.{Answer}
+use Rattle.synmon_top.specs.Reports.{Task, task_of, HasMoreSubsets, NeedsElements, IsStop, Verdict, said, stopped, refused, IsReportOn, IsVerdict}
+use Rattle.synmon_top.specs.Outcome.{AreBytesOf, IsDue, IsPrefix, BeginsDue, IsGivenPrefix, Outcome, EndsOn, Ends, ending_of_fault}
+use Rattle.synmon_top.specs.declared.ending.Ending.{Ending}
+use Rattle.synmon_top.specs.declared.ending.Ending.TheVariants as ending
+use Rattle.synmon_top.specs.declared.ending.Stop.{Stop}
+use Rattle.synmon_top.specs.declared.ending.Stop.TheVariants as stop
+
+-- no command that there is needs the elements
+elements_not_needed : (c : Command) → ¬ NeedsElements c
+elements_not_needed command.Automaton needs = needs
+
+unstopped : (request : Request) (source : SourceText) → ¬ HasMoreSubsets source request.subsets → (s : Stop) → ¬ IsStop (task_of request) source s
+unstopped request source few (stop.Subsets n) (same, more) = few (subst (HasMoreSubsets source) same more)
+unstopped request source few (stop.Elements n) (needs, within, same, more) = elements_not_needed request.command needs
+
+-- what the sections say about a source that nothing stops
+pub report_on : (bytes : List ℕ) (request : Request) (source : SourceText) (text : Said) → IsSource bytes source → ¬ HasMoreSubsets source request.subsets
+    → AreSaid (sections_of request.command) (limits_of request) source.letters (language_of source) text → IsReportOn bytes (task_of request) text
+report_on bytes request source text spelled few says = record {
+  source = source;
+  spelled = spelled;
+  unstopped = unstopped request source few;
+  report = says;
+}
+
+-- a front of a file that is one byte too long, or all of it, has the verdict of the file
+verdict_of_front : (file : List ℕ) (task : Task) (v : Verdict) → IsVerdict (take (most_bytes + 1) file) task v → IsVerdict file task v
+verdict_of_front file task (said text) on = record {
+  source = on.source;
+  spelled = subst (λ b. IsSource b on.source) (front_spells file on.source on.spelled) on.spelled;
+  unstopped = on.unstopped;
+  report = on.report;
+}
+verdict_of_front file task (stopped s) on = record {
+  source = on.source;
+  spelled = subst (λ b. IsSource b on.source) (front_spells file on.source on.spelled) on.spelled;
+  passed = on.passed;
+}
+verdict_of_front file task (refused at code) h = front_refused file at code h
+
+-- the verdict on what was read of a file is due
+due : (held : Option NamedFiles) (words : List (List ℕ)) (bytes : List ℕ) (request : Request) (v : Verdict) → IsVerdict bytes (task_of request) v
+    → IsLine words request → HasFront held request.operand (most_bytes + 1) bytes → IsDue held words v
+due None words bytes request v holds line front = record { request = request; line = line; bytes = bytes; about = tt; holds = holds }
+due (Some files) words bytes request v holds line (file, named, front) = record {
+  request = request;
+  line = line;
+  bytes = file;
+  about = named;
+  holds = verdict_of_front file (task_of request) v (subst (λ b. IsVerdict b (task_of request) v) front holds);
+}
+
+pub ends_refused : (bytes : List ℕ) (request : Request) (at code : ℕ) (old : Option (List ℕ)) → IsRefusal bytes at code → EndsOn bytes request (ending.Refused at code) old old
+ends_refused bytes request at code old h = record {
+  out = [];
+  outcome = λ held words line front. (due held words bytes request (refused at code) h line front, refl);
+  gained = Appends-nil old;
+}
+
+pub ends_stopped : (bytes : List ℕ) (request : Request) (source : SourceText) (old : Option (List ℕ)) → IsSource bytes source → HasMoreSubsets source request.subsets
+    → EndsOn bytes request (ending.Stopped (stop.Subsets request.subsets)) old old
+ends_stopped bytes request source old spelled more = record {
+  out = [];
+  outcome = λ held words line front.
+      (due held words bytes request (stopped (stop.Subsets request.subsets)) (record { source = source; spelled = spelled; passed = (refl, more) }) line front, refl);
+  gained = Appends-nil old;
+}
+
+pub ends_without_memory : (bytes : List ℕ) (request : Request) (old : Option (List ℕ)) → EndsOn bytes request ending.NoMemory old old
+ends_without_memory bytes request old = record { out = []; outcome = λ held words line front. inl refl; gained = Appends-nil old }
+
+pub ends_whole : (bytes : List ℕ) (request : Request) (text : Said) (old new : Option (List ℕ)) → IsReportOn bytes (task_of request) text → text.limited ≡ false
+    → Appends old new text.text → EndsOn bytes request ending.Whole old new
+ends_whole bytes request text old new on unlimited gained = record {
+  out = text.text;
+  outcome = λ held words line front.
+      due held words bytes request (said (record { text = text.text; limited = false }))
+      (subst (λ b. IsReportOn bytes (task_of request) (record { text = text.text; limited = b })) unlimited on) line front;
+  gained = gained;
+}
+
+pub ends_limited : (bytes : List ℕ) (request : Request) (text : Said) (old new : Option (List ℕ)) → IsReportOn bytes (task_of request) text → text.limited ≡ true
+    → Appends old new text.text → EndsOn bytes request ending.Limited old new
+ends_limited bytes request text old new on limited gained = record {
+  out = text.text;
+  outcome = λ held words line front.
+      due held words bytes request (said (record { text = text.text; limited = true }))
+      (subst (λ b. IsReportOn bytes (task_of request) (record { text = text.text; limited = b })) limited on) line front;
+  gained = gained;
+}
+
+pub ends_cut : (bytes : List ℕ) (request : Request) (text : Said) (old new : Option (List ℕ)) → IsReportOn bytes (task_of request) text → IsGivenPrefix old new text.text
+    → EndsOn bytes request ending.CannotWrite old new
+ends_cut bytes request text old new on cut = record {
+  out = cut.prefix;
+  outcome = λ held words line front. (text, due held words bytes request (said text) on line front, cut.begins);
+  gained = cut.gained;
+}
+
+pub ends_short : (bytes : List ℕ) (request : Request) (text : Said) (old new : Option (List ℕ)) → IsReportOn bytes (task_of request) text → IsGivenPrefix old new text.text
+    → EndsOn bytes request ending.NoMemory old new
+ends_short bytes request text old new on cut = record {
+  out = cut.prefix;
+  outcome = λ held words line front. inr (text, due held words bytes request (said text) on line front, cut.begins);
+  gained = cut.gained;
+}
+
+-- the operand's file was read, and the work done on its bytes
+pub ends_of_report : (held : Option NamedFiles) (words : List (List ℕ)) (request : Request) (bytes : List ℕ) (e : Ending) (old new : Option (List ℕ))
+    → IsLine words request → HasFront held request.operand (most_bytes + 1) bytes → EndsOn bytes request e old new → Ends held words e old new
+ends_of_report held words request bytes e old new line front ends = record {
+  out = ends.out;
+  outcome = ends.outcome held words line front;
+  gained = ends.gained;
+}
+
+-- an outcome goes along with what is due
+pub outcome-along : (held : Option NamedFiles) (words others : List (List ℕ)) → (IsAccepted words ↔ IsAccepted others)
+    → ((v : Verdict) → IsDue held words v → IsDue held others v) → (e : Ending) (out : List ℕ) → Outcome held words e out → Outcome held others e out
+outcome-along held words others accepted goes ending.Whole out h = goes _ h
+outcome-along held words others accepted goes ending.BadLine out h = (λ line. h.0 (accepted.1 line), h.1)
+outcome-along held words others accepted goes ending.CannotRead out h = (accepted.0 h.0, h.1)
+outcome-along held words others accepted goes (ending.Refused at code) out h = (goes _ h.0, h.1)
+outcome-along held words others accepted goes (ending.Stopped s) out h = (goes _ h.0, h.1)
+outcome-along held words others accepted goes ending.Limited out h = goes _ h
+outcome-along held words others accepted goes ending.CannotWrite out (text, is, begins) = (text, goes _ is, begins)
+outcome-along held words others accepted goes ending.NoMemory out (inl empty) = inl empty
+outcome-along held words others accepted goes ending.NoMemory out (inr (text, is, begins)) = inr (text, goes _ is, begins)
+
+-- the answers to the sections of a request, as the report on the bytes
+pub report_of_answers : (bytes : List ℕ) (request : Request) (v : Values) (sections : List Section) (answers : List Answer) → IsSource bytes v.source
+    → ¬ HasMoreSubsets v.source request.subsets → sections ≡ sections_of request.command
+    → ((limits : Limits) → AreSections sections limits v.source.letters (language_of v.source) (map (said_of v) answers))
+    → IsReportOn bytes (task_of request) (said_of_all v answers)
+report_of_answers bytes request v sections answers spelled few same are =
+    let P : List Section → Type 0 = λ ss. AreSections ss (limits_of request) v.source.letters (language_of v.source) (map (said_of v) answers) in
+    report_on bytes request v.source (said_of_all v answers) spelled few (map (said_of v) answers, subst P same (are (limits_of request)), refl)
+
+-- said into an empty buffer, and then written to a prefix
+pub prefix_given : {a b c : Channel} {text : List ℕ} → a.buffer.bytes ≡ [] → IsSaid a b text → IsBrokenOff b c [] → IsGivenPrefix a.given c.given text
+prefix_given {a} {b} {c} {text} empty is off =
+    let both = broken-after is off in
+    record {
+      prefix = both.prefix;
+      gained = both.written;
+      begins = (both.rest, both.cut ∙ ap (λ x. x ++ (text ++ [])) empty ∙ append-nil text);
+    }
+
+-- a fact that needs no result
+pub on_err : {T E : Type 0} {P : Type 0} (r : Result T E) → P → OnErr r P
+on_err (Ok x) p = tt
+on_err (Err e) p = p
+
+-- words that ask for nothing
+pub ends_of_fault : (held : Option NamedFiles) (words : List (List ℕ)) (f : LineFault) (out : Option (List ℕ)) → IsFaultOf words f → Ends held words (ending_of_fault f) out out
+ends_of_fault held words line.Words out h = record {
+  out = [];
+  outcome = (λ accepted. let e = line_without_fault words accepted.0 line.Words accepted.1 h in cc, refl);
+  gained = Appends-nil out;
+}
+ends_of_fault held words line.Command out h = record {
+  out = [];
+  outcome = (λ accepted. let e = line_without_fault words accepted.0 line.Command accepted.1 h in cc, refl);
+  gained = Appends-nil out;
+}
+ends_of_fault held words (line.Number place) out h = record {
+  out = [];
+  outcome = (λ accepted. let e = line_without_fault words accepted.0 (line.Number place) accepted.1 h in cc, refl);
+  gained = Appends-nil out;
+}
+ends_of_fault held words line.Memory out h = record { out = []; outcome = inl refl; gained = Appends-nil out }
+
+pub fault_is_no_read : (f : LineFault) → ending_of_fault f ≡ ending.CannotRead → ⊥
+fault_is_no_read line.Words e = cc
+fault_is_no_read line.Command e = cc
+fault_is_no_read (line.Number place) e = cc
+fault_is_no_read line.Memory e = cc
+
+pub fault_is_no_write : (f : LineFault) → ending_of_fault f ≡ ending.CannotWrite → ⊥
+fault_is_no_write line.Words e = cc
+fault_is_no_write line.Command e = cc
+fault_is_no_write (line.Number place) e = cc
+fault_is_no_write line.Memory e = cc

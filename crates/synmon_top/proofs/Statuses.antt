@@ -1,0 +1,97 @@
+-- When a run answers with each status.
+use Rattle.std.proofs.Common.{◌≡◌, ◌⊎◌, ℕ, List, Option, Some, None, inl, inr, refl, sym, ap, ◌∙◌, subst, arith}
+use Rattle.syn_outside.specs.NamedFiles.{NamedFiles, bytes_of, Lacks}
+use Rattle.command_line.specs.declared.request.Request.{Request}
+use Rattle.command_line.specs.Line.{IsLine, IsAccepted}
+use Rattle.command_line.proofs.Lines.{one_request}
+use Rattle.synmon_top.specs.Reports.{Verdict, said, stopped, refused}
+use Rattle.synmon_top.specs.Outcome.{IsDue, Outcome, Ends, IsTold, Runs, status_of, line_of}
+use Rattle.synmon_top.specs.Causes.{HasVerdict, IsLacking, IsOrNoMemory, IsStatus}
+use Rattle.synmon_top.proofs.Deciding.{ending_of, IsText, due_ends}
+use Rattle.synmon_top.specs.declared.ending.Ending.{Ending}
+use Rattle.synmon_top.specs.declared.ending.Ending.TheVariants as ending
+
+pub status_of-is : (e : Ending) → IsStatus (status_of e)
+status_of-is ending.Whole = inl refl
+status_of-is ending.BadLine = inr (inl refl)
+status_of-is ending.CannotRead = inr (inr (inl refl))
+status_of-is (ending.Refused at code) = inr (inr (inr (inl refl)))
+status_of-is (ending.Stopped s) = inr (inr (inr (inr (inl refl))))
+status_of-is ending.Limited = inr (inr (inr (inr (inl refl))))
+status_of-is ending.CannotWrite = inr (inr (inr (inr (inr (inl refl)))))
+status_of-is ending.NoMemory = inr (inr (inr (inr (inr (inr refl)))))
+
+pub only_bad_line : (e : Ending) → status_of e ≡ 2 → e ≡ ending.BadLine
+only_bad_line ending.Whole h = absurd (omega arith)
+only_bad_line ending.BadLine h = refl
+only_bad_line ending.CannotRead h = absurd (omega arith)
+only_bad_line (ending.Refused at code) h = absurd (omega arith)
+only_bad_line (ending.Stopped s) h = absurd (omega arith)
+only_bad_line ending.Limited h = absurd (omega arith)
+only_bad_line ending.CannotWrite h = absurd (omega arith)
+only_bad_line ending.NoMemory h = absurd (omega arith)
+
+pub only_cannot_read : (e : Ending) → status_of e ≡ 3 → e ≡ ending.CannotRead
+only_cannot_read ending.Whole h = absurd (omega arith)
+only_cannot_read ending.BadLine h = absurd (omega arith)
+only_cannot_read ending.CannotRead h = refl
+only_cannot_read (ending.Refused at code) h = absurd (omega arith)
+only_cannot_read (ending.Stopped s) h = absurd (omega arith)
+only_cannot_read ending.Limited h = absurd (omega arith)
+only_cannot_read ending.CannotWrite h = absurd (omega arith)
+only_cannot_read ending.NoMemory h = absurd (omega arith)
+
+pub only_cannot_write : (e : Ending) → status_of e ≡ 6 → e ≡ ending.CannotWrite
+only_cannot_write ending.Whole h = absurd (omega arith)
+only_cannot_write ending.BadLine h = absurd (omega arith)
+only_cannot_write ending.CannotRead h = absurd (omega arith)
+only_cannot_write (ending.Refused at code) h = absurd (omega arith)
+only_cannot_write (ending.Stopped s) h = absurd (omega arith)
+only_cannot_write ending.Limited h = absurd (omega arith)
+only_cannot_write ending.CannotWrite h = refl
+only_cannot_write ending.NoMemory h = absurd (omega arith)
+
+-- status 2: the words are no line
+pub bad_line_told : (held : Option NamedFiles) (words : List (List ℕ)) (e : Ending) (old new : Option (List ℕ)) → Ends held words e old new
+    → status_of e ≡ 2 → ¬ IsAccepted words
+bad_line_told held words e old new ends two = (subst (λ x. Outcome held words x ends.out) (only_bad_line e two) ends.outcome).0
+
+-- words that are no line have status 2, or 7
+without_line : (held : Option NamedFiles) (words : List (List ℕ)) (e : Ending) (out : List ℕ) → Outcome held words e out → ¬ IsAccepted words → IsOrNoMemory 2 (status_of e)
+without_line held words ending.Whole out h none = absurd (none (h.request, h.line))
+without_line held words ending.BadLine out h none = inl refl
+without_line held words ending.CannotRead out h none = absurd (none h.0)
+without_line held words (ending.Refused at code) out h none = absurd (none (h.0.request, h.0.line))
+without_line held words (ending.Stopped s) out h none = absurd (none (h.0.request, h.0.line))
+without_line held words ending.Limited out h none = absurd (none (h.request, h.line))
+without_line held words ending.CannotWrite out (text, is, begins) none = absurd (none (is.request, is.line))
+without_line held words ending.NoMemory out h none = inr refl
+
+pub no_line_told : (held : Option NamedFiles) (words : List (List ℕ)) (e : Ending) (old new : Option (List ℕ)) → Ends held words e old new
+    → ¬ IsAccepted words → IsOrNoMemory 2 (status_of e)
+no_line_told held words e old new ends none = without_line held words e ends.out ends.outcome none
+
+-- a file on which a verdict is due is not lacking
+not_lacking : (held : Option NamedFiles) (words : List (List ℕ)) (v : Verdict) → HasVerdict held words v → ¬ IsLacking held words
+not_lacking held words v has lacking =
+    let none : bytes_of lacking.request.operand has.files ≡ None = subst (λ h. Lacks h lacking.request.operand) has.told lacking.lacks in
+    let same = one_request words has.due.request lacking.request has.due.line lacking.line in
+    let both : Some has.due.bytes ≡ None = sym has.due.about ∙ ap (λ (r : Request). bytes_of r.operand has.files) same ∙ none in
+    cc
+
+-- a verdict that is due decides the status, where no device that it needs fails
+pub verdict_told : (held : Option NamedFiles) (words : List (List ℕ)) (v : Verdict) (e : Ending) (old new : Option (List ℕ)) (Risen Cut : Type 0)
+    → Ends held words e old new → (e ≡ ending.CannotRead → Risen ⊎ IsLacking held words) → (e ≡ ending.CannotWrite → Cut)
+    → HasVerdict held words v → ¬ Risen → (IsText v → ¬ Cut) → IsOrNoMemory (status_of (ending_of v)) (status_of e)
+verdict_told held words v e old new Risen Cut ends unread unwritten has calm steady =
+    by (due_ends has.files words v e ends.out has.due (subst (λ h. Outcome h words e ends.out) has.told ends.outcome))
+  where
+    reading : e ≡ ending.CannotRead → Risen ⊎ IsLacking held words → ⊥
+    reading is (inl risen) = calm risen
+    reading is (inr lacking) = not_lacking held words v has lacking
+    by : (e ≡ ending_of v) ⊎ (e ≡ ending.CannotRead) ⊎ ((e ≡ ending.CannotWrite) × IsText v) ⊎ (e ≡ ending.NoMemory)
+        → IsOrNoMemory (status_of (ending_of v)) (status_of e)
+    by (inl is) = inl (ap status_of is)
+    by (inr (inl is)) = absurd (reading is (unread is))
+    by (inr (inr (inl (is, text)))) = absurd (steady text (unwritten is))
+    by (inr (inr (inr is))) = inr (ap status_of is)

@@ -1,0 +1,5 @@
+use Rattle.synmon_top.proofs.Deciding.{workers_are_free}
+use Rattle.synmon_top.proofs.laws.workers_change_no_outcome.Goals as goal
+
+pub returns : goal.returns
+returns c = workers_are_free

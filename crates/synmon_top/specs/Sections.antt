@@ -1,0 +1,58 @@
+-- The sections of a report: which sections a command prints, and what each says about a language.
+use Rattle.std.specs.Prelude.{◌≡◌, ℕ, Bool, true, false, List, [], ◌∷◌, ⊤, length}
+use Rattle.std.specs.List.{flat_map, list_any}
+use Rattle.language_theory.specs.Nerode.{MinimalAutomaton, IsMinimal}
+use Rattle.command_line.specs.declared.commands.Command.{Command}
+use Rattle.command_line.specs.declared.commands.Command.TheVariants as command
+use Rattle.command_line.specs.declared.request.Request.{Request}
+use Rattle.report_text.specs.AutomatonSection.{automaton_text}
+use Rattle.synmon_top.specs.declared.sections.Section.{Section}
+use Rattle.synmon_top.specs.declared.sections.Section.TheVariants as section
+
+-- the numbers within which the sections answer
+pub record Limits : Type 0 where
+  pub subsets : ℕ
+  pub elements : ℕ
+  pub table : ℕ
+  pub nodes : ℕ
+  pub level : ℕ
+  pub pairs : ℕ
+
+-- those of a request; its number of workers is none of them
+abbrev pub limits_of : Request → Limits
+limits_of r = record { subsets = r.subsets; elements = r.elements; table = r.table; nodes = r.nodes; level = r.level; pairs = r.pairs }
+
+-- The table of commands: the sections that a command prints, in their order.
+abbrev pub sections_of : Command → List Section
+sections_of command.Automaton = section.Automaton ∷ []
+
+-- what a section says: its text, and whether the answer that it tells is a limit
+pub record Said : Type 0 where
+  pub text : List ℕ
+  pub limited : Bool
+
+-- the section `automaton`: the text of the minimal automaton
+pub record IsAutomatonSection (signs : List ℕ) (L : List ℕ → Type 0) (said : Said) : Type 0 where
+  pub automaton : MinimalAutomaton
+  pub minimal : IsMinimal (length signs) L automaton
+  pub text : said.text ≡ automaton_text signs automaton
+  pub unlimited : said.limited ≡ false
+
+-- The table of sections: what each says about the language L over the letters with these signs, within the limits.
+abbrev pub IsSection : Section → Limits → List ℕ → (List ℕ → Type 0) → Said → Type 0
+IsSection section.Automaton limits signs L said = IsAutomatonSection signs L said
+
+-- what each of these sections says, one after another
+abbrev pub AreSections : List Section → Limits → List ℕ → (List ℕ → Type 0) → List Said → Type 0
+AreSections [] limits signs L [] = ⊤
+AreSections [] limits signs L (one ∷ more) = ⊥
+AreSections (first ∷ rest) limits signs L [] = ⊥
+AreSections (first ∷ rest) limits signs L (one ∷ more) = IsSection first limits signs L one × AreSections rest limits signs L more
+
+-- The texts of several sections are joined; one of their answers is a limit, or none.
+abbrev pub joined : List Said → Said
+joined all = record { text = flat_map (λ one. one.text) all; limited = list_any (λ one. one.limited) all }
+
+-- what these sections say together
+abbrev pub AreSaid : List Section → Limits → List ℕ → (List ℕ → Type 0) → Said → Type 0
+AreSaid sections limits signs L said = (all : List Said) × AreSections sections limits signs L all × (said ≡ joined all)
