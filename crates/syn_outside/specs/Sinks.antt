@@ -9,10 +9,10 @@ abbrev pub Takes : Option (List ℕ) → Option (List ℕ) → List ℕ → Put 
 Takes old new piece (put.Wrote n) = (1 ≤ n) × (n ≤ length piece) × Appends old new (take n piece)
 Takes old new piece put.Failed = Keeps old new
 
--- a sink took a front of the piece, and then nothing more
+-- a sink took a prefix of the piece, and then nothing more
 pub record IsCutOff (old new : Option (List ℕ)) (piece : List ℕ) : Type 0 where
-  pub front : List ℕ
+  pub prefix : List ℕ
   pub rest : List ℕ
-  pub whole : front ++ rest ≡ piece
+  pub whole : prefix ++ rest ≡ piece
   pub cut : rest ≢ []
-  pub written : Appends old new front
+  pub written : Appends old new prefix

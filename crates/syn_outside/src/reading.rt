@@ -1,7 +1,7 @@
 //! Reading a whole file.
 ghost use Rattle.std.specs.Prelude.{◌≡◌, ◌+◌, ◌≤◌, true, length, IfOk, IsErrOf};
 ghost use Rattle.syn_outside.specs.Counts.{Rose};
-ghost use Rattle.syn_outside.specs.NamedFiles.{Lacks, HasFront};
+ghost use Rattle.syn_outside.specs.NamedFiles.{Lacks, HasPrefix};
 ghost use Rattle.syn_outside.specs.Reading.{IsRead};
 
 use crate::files::{Files, Got, Opened};
@@ -36,8 +36,8 @@ pub fn read_all<F: Files>(
     max: u32,
 ) -> Result<Vec<u8>, ReadFault>
     ensures files { F.held files.new ≡ F.held files.old }
-    ensures front { IfOk result
-        (λ bytes. HasFront (F.held files.old) name.now (max + 1) bytes.items) }
+    ensures prefix { IfOk result
+        (λ bytes. HasPrefix (F.held files.old) name.now (max + 1) bytes.items) }
     ensures most { IfOk result (λ bytes. length bytes.items ≤ max + 1) }
     ensures missing { IsErrOf result ReadFault.Missing → Lacks (F.held files.old) name.now }
     ensures failed { IsErrOf result ReadFault.Failed →

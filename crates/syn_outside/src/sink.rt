@@ -21,7 +21,7 @@ pub trait Sink {
 
     ghost faults: { Self → ℕ };
 
-    /// Writes a front of the piece.
+    /// Writes a prefix of the piece.
     fn write(&mut self, piece: &[u8]) -> Put
         requires { 0 < length piece.now }
         ensures bytes { Takes (written self.old) (written self.new) piece.now result }

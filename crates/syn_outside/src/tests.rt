@@ -73,13 +73,13 @@ fn writes_and_reads_a_file_of_the_system(rt: HostRuntime) -> Result<(), Fail> {
     let put = put_all(&mut sink, TEXT.as_bytes());
     let mut files = RealFiles::new(&rt);
     let whole = read_all(rt.alloc(), &mut files, name, 100);
-    let front = read_all(rt.alloc(), &mut files, name, 9);
+    let prefix = read_all(rt.alloc(), &mut files, name, 9);
     let mut shut = RealSink::new(fs::open(&rt, name)?);
     let refused = put_all(&mut shut, TEXT.as_bytes());
     fs::remove_file(&rt, name)?;
     assert!(rt; put);
     assert_eq!(rt; whole?.as_slice(), TEXT.as_bytes());
-    assert_eq!(rt; front?.as_slice(), b"twenty-six".as_slice());
+    assert_eq!(rt; prefix?.as_slice(), b"twenty-six".as_slice());
     assert!(rt; !refused);
     Ok(())
 }

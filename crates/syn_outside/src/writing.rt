@@ -9,10 +9,10 @@ use crate::sink::{Put, Sink};
 /// Writes the whole piece, in as many writes as the sink takes.
 ///
 /// True: the sink took exactly the piece. False: its count of faults rose in this call, and it took
-/// a front of the piece that is not the whole. An empty piece gives true. It takes no memory.
+/// a prefix of the piece that is not the whole. An empty piece gives true. It takes no memory.
 pub fn put_all<S: Sink>(sink: &mut S, piece: &[u8]) -> bool
     ensures whole { result ≡ true → Appends (S.written sink.old) (S.written sink.new) piece.now }
-    ensures front { result ≡ false → IsCutOff (S.written sink.old) (S.written sink.new) piece.now }
+    ensures cut { result ≡ false → IsCutOff (S.written sink.old) (S.written sink.new) piece.now }
     ensures failed { result ≡ false → Rose (S.faults sink.old) (S.faults sink.new) }
     ensures empty { piece.now ≡ [] → result ≡ true }
     ensures count { S.faults sink.old ≤ S.faults sink.new }

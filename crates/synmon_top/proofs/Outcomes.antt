@@ -3,7 +3,7 @@ use Rattle.std.proofs.Common.{◌≡◌, ◌⊎◌, ℕ, ◌+◌, true, false, L
 use Rattle.std.specs.Prelude.{◌↔◌, OnErr}
 use Rattle.std.specs.Io.KnownBytes.{Appends}
 use Rattle.std.proofs.KnownBytes.{Appends-nil}
-use Rattle.syn_outside.specs.NamedFiles.{NamedFiles, bytes_of, HasFront}
+use Rattle.syn_outside.specs.NamedFiles.{NamedFiles, bytes_of, HasPrefix}
 use Rattle.automaton_file.specs.FileText.{SourceText, IsSource, IsRefusal, language_of, most_bytes}
 use Rattle.automaton_file.proofs.SourceLaws.{front_spells, front_refused}
 use Rattle.command_line.specs.declared.commands.Command.{Command}
@@ -20,7 +20,7 @@ use Rattle.report_text.proofs.Channels.{broken-after}
 use Rattle.synmon_top.specs.declared.sections.Section.{Section}
 use Rattle.synmon_top.specs.declared.answers.Answer.{Answer}
 use Rattle.synmon_top.specs.Reports.{Task, task_of, HasMoreSubsets, NeedsElements, IsStop, Verdict, said, stopped, refused, IsReportOn, IsVerdict}
-use Rattle.synmon_top.specs.Outcome.{AreBytesOf, IsDue, IsPrefix, BeginsDue, IsGivenPrefix, Outcome, EndsOn, Ends, ending_of_fault}
+use Rattle.synmon_top.specs.Outcome.{AreBytesOf, IsDue, BeginsDue, IsGivenPrefix, Outcome, EndsOn, Ends, ending_of_fault}
 use Rattle.synmon_top.specs.declared.ending.Ending.{Ending}
 use Rattle.synmon_top.specs.declared.ending.Ending.TheVariants as ending
 use Rattle.synmon_top.specs.declared.ending.Stop.{Stop}
@@ -44,37 +44,37 @@ report_on bytes request source text spelled few says = record {
   report = says;
 }
 
--- a front of a file that is one byte too long, or all of it, has the verdict of the file
-verdict_of_front : (file : List ℕ) (task : Task) (v : Verdict) → IsVerdict (take (most_bytes + 1) file) task v → IsVerdict file task v
-verdict_of_front file task (said text) on = record {
+-- a prefix of a file that is one byte too long, or all of it, has the verdict of the file
+verdict_of_prefix : (file : List ℕ) (task : Task) (v : Verdict) → IsVerdict (take (most_bytes + 1) file) task v → IsVerdict file task v
+verdict_of_prefix file task (said text) on = record {
   source = on.source;
   spelled = subst (λ b. IsSource b on.source) (front_spells file on.source on.spelled) on.spelled;
   unstopped = on.unstopped;
   report = on.report;
 }
-verdict_of_front file task (stopped s) on = record {
+verdict_of_prefix file task (stopped s) on = record {
   source = on.source;
   spelled = subst (λ b. IsSource b on.source) (front_spells file on.source on.spelled) on.spelled;
   passed = on.passed;
 }
-verdict_of_front file task (refused at code) h = front_refused file at code h
+verdict_of_prefix file task (refused at code) h = front_refused file at code h
 
 -- the verdict on what was read of a file is due
 due : (held : Option NamedFiles) (words : List (List ℕ)) (bytes : List ℕ) (request : Request) (v : Verdict) → IsVerdict bytes (task_of request) v
-    → IsLine words request → HasFront held request.operand (most_bytes + 1) bytes → IsDue held words v
-due None words bytes request v holds line front = record { request = request; line = line; bytes = bytes; about = tt; holds = holds }
-due (Some files) words bytes request v holds line (file, named, front) = record {
+    → IsLine words request → HasPrefix held request.operand (most_bytes + 1) bytes → IsDue held words v
+due None words bytes request v holds line prefix = record { request = request; line = line; bytes = bytes; about = tt; holds = holds }
+due (Some files) words bytes request v holds line (file, named, prefix) = record {
   request = request;
   line = line;
   bytes = file;
   about = named;
-  holds = verdict_of_front file (task_of request) v (subst (λ b. IsVerdict b (task_of request) v) front holds);
+  holds = verdict_of_prefix file (task_of request) v (subst (λ b. IsVerdict b (task_of request) v) prefix holds);
 }
 
 pub ends_refused : (bytes : List ℕ) (request : Request) (at code : ℕ) (old : Option (List ℕ)) → IsRefusal bytes at code → EndsOn bytes request (ending.Refused at code) old old
 ends_refused bytes request at code old h = record {
   out = [];
-  outcome = λ held words line front. (due held words bytes request (refused at code) h line front, refl);
+  outcome = λ held words line prefix. (due held words bytes request (refused at code) h line prefix, refl);
   gained = Appends-nil old;
 }
 
@@ -82,21 +82,21 @@ pub ends_stopped : (bytes : List ℕ) (request : Request) (source : SourceText) 
     → EndsOn bytes request (ending.Stopped (stop.Subsets request.subsets)) old old
 ends_stopped bytes request source old spelled more = record {
   out = [];
-  outcome = λ held words line front.
-      (due held words bytes request (stopped (stop.Subsets request.subsets)) (record { source = source; spelled = spelled; passed = (refl, more) }) line front, refl);
+  outcome = λ held words line prefix.
+      (due held words bytes request (stopped (stop.Subsets request.subsets)) (record { source = source; spelled = spelled; passed = (refl, more) }) line prefix, refl);
   gained = Appends-nil old;
 }
 
 pub ends_without_memory : (bytes : List ℕ) (request : Request) (old : Option (List ℕ)) → EndsOn bytes request ending.NoMemory old old
-ends_without_memory bytes request old = record { out = []; outcome = λ held words line front. inl refl; gained = Appends-nil old }
+ends_without_memory bytes request old = record { out = []; outcome = λ held words line prefix. inl refl; gained = Appends-nil old }
 
 pub ends_whole : (bytes : List ℕ) (request : Request) (text : Said) (old new : Option (List ℕ)) → IsReportOn bytes (task_of request) text → text.limited ≡ false
     → Appends old new text.text → EndsOn bytes request ending.Whole old new
 ends_whole bytes request text old new on unlimited gained = record {
   out = text.text;
-  outcome = λ held words line front.
+  outcome = λ held words line prefix.
       due held words bytes request (said (record { text = text.text; limited = false }))
-      (subst (λ b. IsReportOn bytes (task_of request) (record { text = text.text; limited = b })) unlimited on) line front;
+      (subst (λ b. IsReportOn bytes (task_of request) (record { text = text.text; limited = b })) unlimited on) line prefix;
   gained = gained;
 }
 
@@ -104,9 +104,9 @@ pub ends_limited : (bytes : List ℕ) (request : Request) (text : Said) (old new
     → Appends old new text.text → EndsOn bytes request ending.Limited old new
 ends_limited bytes request text old new on limited gained = record {
   out = text.text;
-  outcome = λ held words line front.
+  outcome = λ held words line prefix.
       due held words bytes request (said (record { text = text.text; limited = true }))
-      (subst (λ b. IsReportOn bytes (task_of request) (record { text = text.text; limited = b })) limited on) line front;
+      (subst (λ b. IsReportOn bytes (task_of request) (record { text = text.text; limited = b })) limited on) line prefix;
   gained = gained;
 }
 
@@ -114,7 +114,7 @@ pub ends_cut : (bytes : List ℕ) (request : Request) (text : Said) (old new : O
     → EndsOn bytes request ending.CannotWrite old new
 ends_cut bytes request text old new on cut = record {
   out = cut.prefix;
-  outcome = λ held words line front. (text, due held words bytes request (said text) on line front, cut.begins);
+  outcome = λ held words line prefix. (text, due held words bytes request (said text) on line prefix, cut.begins);
   gained = cut.gained;
 }
 
@@ -122,16 +122,16 @@ pub ends_short : (bytes : List ℕ) (request : Request) (text : Said) (old new :
     → EndsOn bytes request ending.NoMemory old new
 ends_short bytes request text old new on cut = record {
   out = cut.prefix;
-  outcome = λ held words line front. inr (text, due held words bytes request (said text) on line front, cut.begins);
+  outcome = λ held words line prefix. inr (text, due held words bytes request (said text) on line prefix, cut.begins);
   gained = cut.gained;
 }
 
 -- the operand's file was read, and the work done on its bytes
 pub ends_of_report : (held : Option NamedFiles) (words : List (List ℕ)) (request : Request) (bytes : List ℕ) (e : Ending) (old new : Option (List ℕ))
-    → IsLine words request → HasFront held request.operand (most_bytes + 1) bytes → EndsOn bytes request e old new → Ends held words e old new
-ends_of_report held words request bytes e old new line front ends = record {
+    → IsLine words request → HasPrefix held request.operand (most_bytes + 1) bytes → EndsOn bytes request e old new → Ends held words e old new
+ends_of_report held words request bytes e old new line prefix ends = record {
   out = ends.out;
-  outcome = ends.outcome held words line front;
+  outcome = ends.outcome held words line prefix;
   gained = ends.gained;
 }
 

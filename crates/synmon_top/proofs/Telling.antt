@@ -28,25 +28,25 @@ tells_next f xs i d part a b c below same before now =
     (Appends-trans a b c (concat (map f (take i xs))) part before now)
 
 -- a part was cut off
-pub tells_front : {X : Type 0} (f : X → List ℕ) (xs : List X) (i : ℕ) (d : X) (part : List ℕ) (a b c : Option (List ℕ)) (m n o : ℕ)
+pub tells_prefix : {X : Type 0} (f : X → List ℕ) (xs : List X) (i : ℕ) (d : X) (part : List ℕ) (a b c : Option (List ℕ)) (m n o : ℕ)
     → i < length xs → part ≡ f (get_or xs i d) → Appends a b (concat (map f (take i xs))) → IsCutOff b c part → m ≤ n → Rose n o
     → IsTold a c m o (concat (map f xs))
-tells_front f xs i d part a b c m n o below same before off count rose =
-    let front = concat (map f (take i xs)) in
+tells_prefix f xs i d part a b c m n o below same before off count rose =
+    let prefix = concat (map f (take i xs)) in
     let behind = concat (map f (drop (i + 1) xs)) in
     let whole : concat (map f (take (i + 1) xs)) ++ behind ≡ concat (map f xs) =
     sym (concat-append (map f (take (i + 1) xs)) (map f (drop (i + 1) xs)))
     ∙ ap concat (sym (map-append f (take (i + 1) xs) (drop (i + 1) xs)))
     ∙ ap (λ l. concat (map f l)) (take-append-drop (i + 1) xs) in
     record {
-      told = front ++ off.front;
-      gained = Appends-trans a b c front off.front before off.written;
+      told = prefix ++ off.prefix;
+      gained = Appends-trans a b c prefix off.prefix before off.written;
       whole = inr (
         (
           off.rest ++ behind,
-          append_assoc front off.front (off.rest ++ behind)
-              ∙ ap (λ l. front ++ l) (sym (append_assoc off.front off.rest behind) ∙ ap (λ l. l ++ behind) (off.whole ∙ same))
-              ∙ sym (append_assoc front (f (get_or xs i d)) behind)
+          append_assoc prefix off.prefix (off.rest ++ behind)
+              ∙ ap (λ l. prefix ++ l) (sym (append_assoc off.prefix off.rest behind) ∙ ap (λ l. l ++ behind) (off.whole ∙ same))
+              ∙ sym (append_assoc prefix (f (get_or xs i d)) behind)
               ∙ ap (λ l. l ++ behind) (parts_next f xs i d below) ∙ whole,
         ),
         omega (arith, rose, count),

@@ -2,8 +2,9 @@
 use Rattle.std.specs.Prelude.{◌≡◌, ◌⊎◌, ℕ, ◌+◌, true, false, List, [], ◌++◌, codes, Option, Some, None, ⊤}
 use Rattle.std.specs.Fmt.{decimal}
 use Rattle.std.specs.Io.KnownBytes.{Appends}
+use Rattle.language_theory.specs.Words.{IsPrefix}
 use Rattle.syn_outside.specs.Counts.{Rose}
-use Rattle.syn_outside.specs.NamedFiles.{NamedFiles, bytes_of, HasFront}
+use Rattle.syn_outside.specs.NamedFiles.{NamedFiles, bytes_of, HasPrefix}
 use Rattle.automaton_file.specs.FileText.{most_bytes}
 use Rattle.command_line.specs.declared.fault.LineFault.{LineFault}
 use Rattle.command_line.specs.declared.fault.LineFault.TheVariants as line
@@ -55,10 +56,6 @@ pub record IsDue (held : Option NamedFiles) (words : List (List ℕ)) (verdict :
   pub bytes : List ℕ
   pub about : AreBytesOf held request bytes
   pub holds : IsVerdict bytes (task_of request) verdict
-
--- a text begins with `prefix`
-abbrev pub IsPrefix : List ℕ → List ℕ → Type 0
-IsPrefix prefix text = (rest : List ℕ) × (prefix ++ rest ≡ text)
 
 -- a prefix of the text that is due
 abbrev pub BeginsDue : Option NamedFiles → List (List ℕ) → List ℕ → Type 0
@@ -122,5 +119,5 @@ pub record IsGivenPrefix (old new : Option (List ℕ)) (text : List ℕ) : Type 
 pub record EndsOn (bytes : List ℕ) (request : Request) (end : Ending) (old new : Option (List ℕ)) : Type 0 where
   pub out : List ℕ
   pub outcome : (held : Option NamedFiles) (words : List (List ℕ)) → IsLine words request
-      → HasFront held request.operand (most_bytes + 1) bytes → Outcome held words end out
+      → HasPrefix held request.operand (most_bytes + 1) bytes → Outcome held words end out
   pub gained : Appends old new out

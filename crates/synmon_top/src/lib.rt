@@ -7,6 +7,8 @@ mod laws;
 mod reporting;
 mod running;
 mod sections;
+#[cfg(test)]
+mod tests;
 
 pub use laws::{the_outcome_is_unique, workers_change_no_outcome};
 pub use running::run;

@@ -1,0 +1,341 @@
+//! Runs over devices in memory, and over the files of the system.
+
+use crate::run;
+use std::fs;
+use std::process::Abort;
+use std::test::Fail;
+use std::thread::Threads;
+use syn_outside::{MemFiles, MemSink, OpenGate, RealFiles, RealSink, put_all};
+
+/// The language `(ab)*`.
+const AB_STAR: &str =
+    "synmon 1\nalphabet ab\nnfa 3\ninitial 0\nfinal 0\n0 a 1\n0 b 2\n1 a 2\n1 b 0\n2 a 2\n2 b 2\n";
+
+const AB_STAR_TEXT: &str =
+    "automaton\nalphabet ab\nstates 3\n0 1 in 1 2\n1 a out 2 0\n2 b out 2 2\n";
+
+/// The words with an even number of a, by four states that fold in pairs, and one that no word leads to.
+const EVEN_AS: &str =
+    "synmon 1\nalphabet ba\nnfa 5\ninitial 2\nfinal 0 2 4\n0 a 1\n0 b 2\n1 a 0\n1 b 3\n2 a 3\n2 b 0\n3 a 2\n3 b 1\n4 a 4\n4 b 4\n";
+
+const EVEN_AS_TEXT: &str = "automaton\nalphabet ba\nstates 2\n0 1 in 0 1\n1 a out 1 0\n";
+
+/// No word, by a final state that no word leads to.
+const NO_WORD: &str = "synmon 1\nalphabet a\nnfa 2\ninitial 1\nfinal 0\n0 a 1\n1 a 1\n";
+
+/// The language `(ab)*` by two initial states, of which words lead to five sets of states.
+const FIVE_SETS: &str =
+    "synmon 1\nalphabet ab\nnfa 5\ninitial 0 1\nfinal 0\n0 a 2\n1 a 2\n2 b 0\n2 a 4\n3 a 0\n";
+
+/// The words whose fourth letter from the end is a: 16 states, and 17 sets of positions.
+const FOURTH_LAST_A: &str = "synmon 1\nalphabet ab\nexpr (a|b)*a(a|b)(a|b)(a|b)\n";
+
+const FOURTH_LAST_A_TEXT: &str =
+    "automaton\nalphabet ab\nstates 16\n0 1 out 1 0\n1 a out 2 3\n2 aa out 4 5\n3 ab out 6 7\n4 aaa out 8 9\n5 aab out 10 11\n6 aba out 12 13\n7 abb out 14 15\n8 aaaa in 8 9\n9 aaab in 10 11\n10 aaba in 12 13\n11 aabb in 14 15\n12 abaa in 4 5\n13 abab in 6 7\n14 abba in 2 3\n15 abbb in 1 0\n";
+
+/// An expression whose first sign stands in no word, so that words lead to three sets of positions.
+const DEAD_SIGN: &str = "synmon 1\nalphabet ab\nexpr a0|b\n";
+
+const WHOLE_LINE: u32 = 64;
+
+/// A number that no call of these runs has.
+const NEVER: u8 = 255;
+
+/// A run on the words, where the one file is `name`: the numbers of the calls that fail, the room of the sinks, and
+/// what is wanted.
+#[derive(Clone, Copy)]
+struct Row {
+    words: &'static [&'static str],
+    file: &'static str,
+    failing_read: u8,
+    out_room: u32,
+    failing_write: u8,
+    errs_room: u32,
+    status: u8,
+    out: &'static str,
+    errs: &'static str,
+}
+
+const GOOD: Row = Row {
+    words: &["automaton", "name"],
+    file: AB_STAR,
+    failing_read: NEVER,
+    out_room: 1_000,
+    failing_write: NEVER,
+    errs_room: WHOLE_LINE,
+    status: 0,
+    out: AB_STAR_TEXT,
+    errs: "",
+};
+
+fn check<R: Threads + Sync + Abort + AllocGlobal>(rt: &R, row: Row) -> Result<(), Fail> {
+    let alloc = rt.alloc();
+    let mut words = Vec::new(alloc);
+    for word in row.words {
+        words.push(String::from_str(alloc, word)?)?;
+    }
+    let failing_read = [u64::from(row.failing_read)];
+    let failing_write = [u64::from(row.failing_write)];
+    let mut files = MemFiles::new(alloc, "name", row.file.as_bytes(), 10, &failing_read)?;
+    let mut out = MemSink::new(alloc, row.out_room, 10, &failing_write)?;
+    let mut errs = MemSink::new(alloc, row.errs_room, 10, &[])?;
+    let status = run(
+        rt,
+        alloc,
+        words.as_slice(),
+        &mut files,
+        &mut out,
+        &mut errs,
+        &OpenGate,
+    );
+    assert_eq!(rt; status, row.status);
+    assert_eq!(rt; out.bytes(), row.out.as_bytes());
+    assert_eq!(rt; errs.bytes(), row.errs.as_bytes());
+    Ok(())
+}
+
+#[test]
+fn runs_end_as_their_table_says(rt: HostRuntime) -> Result<(), Fail> {
+    let refused = Row {
+        status: 4,
+        out: "",
+        ..GOOD
+    };
+    let bad_line = Row {
+        status: 2,
+        out: "",
+        errs: "synmon: bad command line\n",
+        ..GOOD
+    };
+    let cannot_read = Row {
+        status: 3,
+        out: "",
+        errs: "synmon: cannot read\n",
+        ..GOOD
+    };
+    let cannot_write = Row {
+        status: 6,
+        errs: "synmon: cannot write\n",
+        ..GOOD
+    };
+    let rows = [
+        GOOD,
+        Row {
+            file: EVEN_AS,
+            out: EVEN_AS_TEXT,
+            ..GOOD
+        },
+        Row {
+            file: NO_WORD,
+            out: "automaton\nalphabet a\nstates 1\n0 1 out 0\n",
+            ..GOOD
+        },
+        Row {
+            file: FIVE_SETS,
+            ..GOOD
+        },
+        Row {
+            file: "synmon 1\nalphabet ab\nexpr (ab)*\n",
+            ..GOOD
+        },
+        Row {
+            file: "synmon 1\nalphabet ab\nexpr 0\n",
+            out: "automaton\nalphabet ab\nstates 1\n0 1 out 0 0\n",
+            ..GOOD
+        },
+        Row {
+            words: &["automaton", "--subsets", "3", "name"],
+            file: DEAD_SIGN,
+            out: "automaton\nalphabet ab\nstates 3\n0 1 out 1 2\n1 a out 1 1\n2 b in 1 1\n",
+            ..GOOD
+        },
+        Row {
+            words: &["automaton", "--subsets", "2", "name"],
+            file: DEAD_SIGN,
+            status: 5,
+            out: "",
+            errs: "synmon: limit subsets 2\n",
+            ..GOOD
+        },
+        Row {
+            words: &["automaton", "--subsets", "17", "name"],
+            file: FOURTH_LAST_A,
+            out: FOURTH_LAST_A_TEXT,
+            ..GOOD
+        },
+        Row {
+            words: &["automaton", "--subsets", "16", "name"],
+            file: FOURTH_LAST_A,
+            status: 5,
+            out: "",
+            errs: "synmon: limit subsets 16\n",
+            ..GOOD
+        },
+        Row {
+            words: &["automaton", "--subsets", "5", "name"],
+            file: FIVE_SETS,
+            ..GOOD
+        },
+        Row {
+            words: &["automaton", "--subsets", "4096", "name"],
+            file: FIVE_SETS,
+            ..GOOD
+        },
+        Row {
+            words: &["automaton", "--subsets", "4", "name"],
+            file: FIVE_SETS,
+            status: 5,
+            out: "",
+            errs: "synmon: limit subsets 4\n",
+            ..GOOD
+        },
+        Row {
+            words: &[],
+            ..bad_line
+        },
+        Row {
+            words: &["automaton"],
+            ..bad_line
+        },
+        Row {
+            words: &["automata", "name"],
+            ..bad_line
+        },
+        Row {
+            words: &["automaton", "name", "name"],
+            ..bad_line
+        },
+        Row {
+            words: &["automaton", "--subsets", "0", "name"],
+            ..bad_line
+        },
+        Row {
+            words: &["automaton", "--subsets", "4097", "name"],
+            ..bad_line
+        },
+        Row {
+            words: &["automaton", "--subsets", "01", "name"],
+            ..bad_line
+        },
+        Row {
+            words: &["automaton", "--subsets", "+5", "name"],
+            ..bad_line
+        },
+        Row {
+            words: &["automaton", "--subsets", "5", "--subsets", "5", "name"],
+            ..bad_line
+        },
+        Row {
+            words: &["automaton", "--colour", "1", "name"],
+            ..bad_line
+        },
+        Row {
+            words: &["automaton", "--subsets", "5"],
+            ..bad_line
+        },
+        Row {
+            words: &["automaton", "--subsets"],
+            ..bad_line
+        },
+        Row {
+            words: &["automaton", "--nodes", "x", "name"],
+            ..bad_line
+        },
+        Row {
+            words: &["automaton", "--workers", "65", "name"],
+            ..bad_line
+        },
+        Row {
+            words: &["automaton", "--subsets=5", "name"],
+            file: FIVE_SETS,
+            ..GOOD
+        },
+        Row {
+            words: &["--workers", "64", "automaton", "name", "--level", "12"],
+            ..GOOD
+        },
+        Row {
+            words: &["automaton", "--", "-name"],
+            ..cannot_read
+        },
+        Row {
+            words: &["automaton", "other"],
+            ..cannot_read
+        },
+        Row {
+            failing_read: 2,
+            ..cannot_read
+        },
+        Row {
+            file: "",
+            errs: "synmon: line 1 code 7\n",
+            ..refused
+        },
+        Row {
+            file: "synmon 1",
+            errs: "synmon: line 2 code 7\n",
+            ..refused
+        },
+        Row {
+            file: "synmon 1\nalphabet ab\nnfa 2\ninitial 0\nfi",
+            errs: "synmon: line 5 code 7\n",
+            ..refused
+        },
+        Row {
+            file: "synmon 1\nalphabet ab\nexpr (ac)*\n",
+            errs: "synmon: line 3 code 8\n",
+            ..refused
+        },
+        Row {
+            file: "synmon 1\nalphabet ab\nexpr a\nexpr b\n",
+            errs: "synmon: line 4 code 9\n",
+            ..refused
+        },
+        Row {
+            failing_write: 1,
+            out: "automaton\n",
+            ..cannot_write
+        },
+        Row {
+            out_room: 10,
+            out: "automaton\n",
+            ..cannot_write
+        },
+        Row {
+            file: "",
+            errs_room: 12,
+            errs: "synmon: line",
+            ..refused
+        },
+    ];
+    for row in rows {
+        check(&rt, row)?;
+    }
+    Ok(())
+}
+
+#[test]
+fn a_run_over_real_files_reads_the_named_file(rt: HostRuntime) -> Result<(), Fail> {
+    let name = "synmon_top.test";
+    let mut writer = RealSink::new(fs::create(&rt, name)?);
+    let is_written = put_all(&mut writer, AB_STAR.as_bytes());
+    let rows = [
+        (name, 0u8, AB_STAR_TEXT, ""),
+        ("no_such_file.test", 3, "", "synmon: cannot read\n"),
+    ];
+    let mut told = Vec::new(rt.alloc());
+    for (operand, status, text, line) in rows {
+        let mut words = Vec::new(rt.alloc());
+        words.push(String::from_str(rt.alloc(), "automaton")?)?;
+        words.push(String::from_str(rt.alloc(), operand)?)?;
+        let mut files = RealFiles::new(&rt);
+        let mut out = MemSink::new(rt.alloc(), 1_000, 1_000, &[])?;
+        let mut errs = MemSink::new(rt.alloc(), WHOLE_LINE, 100, &[])?;
+        let got = run(&rt, rt.alloc(), words.as_slice(), &mut files, &mut out, &mut errs, &OpenGate);
+        told.push(got == status && out.bytes() == text.as_bytes() && errs.bytes() == line.as_bytes())?;
+    }
+    fs::remove_file(&rt, name)?;
+    assert!(rt; is_written);
+    assert_eq!(rt; told.as_slice(), [true, true].as_slice());
+    Ok(())
+}
