@@ -9,7 +9,8 @@ use Rattle.language_theory.proofs.Shortlex.{over_prefix, over_suffix, shortlex_i
 use Rattle.language_theory.proofs.Graphs.{row_place, walk_append, node_within}
 use Rattle.language_theory.proofs.ShortlexCriterion.{shortlex_by_letters}
 use Rattle.language_theory.proofs.Numbers.{pigeonhole}
-use Rattle.exploration.specs.States.{AreNumbered, Agree, IsSameMachine}
+use Rattle.language_theory.specs.Congruence.{Agree}
+use Rattle.exploration.specs.States.{AreNumbered, IsSameMachine}
 use Rattle.exploration.specs.Search.{IsBreadthFirst, AreNodes, IsSearched}
 use Rattle.exploration.proofs.Places.{row_within}
 
