@@ -23,17 +23,29 @@ one_text o u v p q = let both : Some u ≡ Some v = sym p ∙ q in cc
 one_number : (given : List Row) (option : OptionRow) (m n : ℕ) → option.most < 2 ^ 64
     → IsNumberIn given option m → IsNumberIn given option n → m ≡ n
 one_number given option m n small p q =
-    decimal_injective m n (omega (arith, p.most, small)) (omega (arith, q.most, small)) (sym p.spelled ∙ q.spelled)
+    decimal_injective m n (omega (arith, p.most, small)) (omega (arith, q.most, small))
+    (sym p.spelled ∙ q.spelled)
 
-number_at : (given : List Row) (r s : Request) (place : ℕ) → place < length options → (option_at place).most < 2 ^ 64
+number_at : (given : List Row) (r s : Request) (place : ℕ) → place < length options
+    → (option_at place).most < 2 ^ 64
     → AreNumbersIn given (numbers_of r) → AreNumbersIn given (numbers_of s)
     → get_or (numbers_of r) place 0 ≡ get_or (numbers_of s) place 0
 number_at given r s place h small p q =
-    one_number given (option_at place) (get_or (numbers_of r) place 0) (get_or (numbers_of s) place 0) small (p place h) (q place h)
+    one_number given (option_at place) (get_or (numbers_of r) place 0)
+    (get_or (numbers_of s) place 0) small (p place h) (q place h)
 
 request_of : Command → List ℕ → ℕ → ℕ → ℕ → ℕ → ℕ → ℕ → ℕ → Request
 request_of c name subsets elements table nodes level pairs workers = record {
-  command = c; operand = name; subsets = subsets; elements = elements; table = table; nodes = nodes; level = level; pairs = pairs; workers = workers;
+  command = c;
+  operand = name;
+  subsets = subsets;
+  elements = elements;
+  table = table;
+  nodes =
+      nodes;
+  level = level;
+  pairs = pairs;
+  workers = workers;
 }
 
 pub one_request : (words : List (List ℕ)) (r s : Request) → IsLine words r → IsLine words s → r ≡ s
@@ -42,15 +54,24 @@ one_request words r s p q =
     let given = rows_of_line words in
     let c = one_command r.command s.command (one_text _ _ _ p.taken.first q.taken.first) in
     let o = one_text _ _ _ p.taken.second q.taken.second in
-    let a : r.subsets ≡ s.subsets = number_at given r s 0 (omega arith) (omega arith) p.numbers q.numbers in
-    let b : r.elements ≡ s.elements = number_at given r s 1 (omega arith) (omega arith) p.numbers q.numbers in
-    let d : r.table ≡ s.table = number_at given r s 2 (omega arith) (omega arith) p.numbers q.numbers in
-    let e : r.nodes ≡ s.nodes = number_at given r s 3 (omega arith) (omega arith) p.numbers q.numbers in
-    let f : r.level ≡ s.level = number_at given r s 4 (omega arith) (omega arith) p.numbers q.numbers in
-    let g : r.pairs ≡ s.pairs = number_at given r s 5 (omega arith) (omega arith) p.numbers q.numbers in
-    let h : r.workers ≡ s.workers = number_at given r s 6 (omega arith) (omega arith) p.numbers q.numbers in
-    let whole : request_of r.command r.operand r.subsets r.elements r.table r.nodes r.level r.pairs r.workers
-        ≡ request_of s.command s.operand s.subsets s.elements s.table s.nodes s.level s.pairs s.workers = cc in
+    let a : r.subsets ≡ s.subsets =
+    number_at given r s 0 (omega arith) (omega arith) p.numbers q.numbers in
+    let b : r.elements ≡ s.elements =
+    number_at given r s 1 (omega arith) (omega arith) p.numbers q.numbers in
+    let d : r.table ≡ s.table =
+    number_at given r s 2 (omega arith) (omega arith) p.numbers q.numbers in
+    let e : r.nodes ≡ s.nodes =
+    number_at given r s 3 (omega arith) (omega arith) p.numbers q.numbers in
+    let f : r.level ≡ s.level =
+    number_at given r s 4 (omega arith) (omega arith) p.numbers q.numbers in
+    let g : r.pairs ≡ s.pairs =
+    number_at given r s 5 (omega arith) (omega arith) p.numbers q.numbers in
+    let h : r.workers ≡ s.workers =
+    number_at given r s 6 (omega arith) (omega arith) p.numbers q.numbers in
+    let whole : request_of r.command r.operand r.subsets r.elements r.table r.nodes r.level r.pairs
+    r.workers
+    ≡ request_of s.command s.operand s.subsets s.elements s.table s.nodes s.level s.pairs
+    s.workers = cc in
     whole
 
 pub line_in_range : (words : List (List ℕ)) (r : Request) → IsLine words r → IsInRange r
@@ -65,8 +86,10 @@ line_in_range words r line = record {
   workers = (line.numbers 6 (omega arith)).most;
 }
 
-pub line_without_fault : (words : List (List ℕ)) (r : Request) (f : LineFault) → IsLine words r → IsFaultOf words f → f ≡ fault.Memory
-line_without_fault words r fault.Words line h = absurd (h (command_word r.command) r.operand line.taken)
+pub line_without_fault : (words : List (List ℕ)) (r : Request) (f : LineFault) → IsLine words r
+    → IsFaultOf words f → f ≡ fault.Memory
+line_without_fault words r fault.Words line h =
+    absurd (h (command_word r.command) r.operand line.taken)
 line_without_fault words r fault.Command line h =
     absurd (h.unknown r.command (one_text _ _ _ h.taken.first line.taken.first))
 line_without_fault words r (fault.Number place) line h =

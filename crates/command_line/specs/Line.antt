@@ -19,7 +19,8 @@ pub record IsTaken (words : List (List ℕ)) (command operand : List ℕ) : Type
 abbrev pub value_in : List Row → OptionRow → List ℕ
 value_in given option = unwrap_or (first_of option.word given) (decimal option.usual)
 
--- an option has this number: in decimal digits, of which the first is not 0 unless it is the only one, and in the option's range
+-- an option has this number: in decimal digits, of which the first is not 0 unless it is the only
+-- one, and in the option's range
 pub record IsNumberIn (given : List Row) (option : OptionRow) (n : ℕ) : Type 0 where
   pub spelled : value_in given option ≡ decimal n
   pub least : option.least ≤ n
@@ -31,7 +32,8 @@ numbers_of r = r.subsets ∷ r.elements ∷ r.table ∷ r.nodes ∷ r.level ∷ 
 
 -- these are the numbers of all options, in the order of their table
 abbrev pub AreNumbersIn : List Row → List ℕ → Type 0
-AreNumbersIn given numbers = (place : ℕ) → place < length options → IsNumberIn given (option_at place) (slice_index numbers place)
+AreNumbersIn given numbers = (place : ℕ) → place < length options
+    → IsNumberIn given (option_at place) (slice_index numbers place)
 
 -- the words are a line, and ask for this
 pub record IsLine (words : List (List ℕ)) (request : Request) : Type 0 where
@@ -59,14 +61,16 @@ pub record IsFirstBad (given : List Row) (place : ℕ) : Type 0 where
   pub before : (i : ℕ) → i < place → (n : ℕ) × IsNumberIn given (option_at i) n
   pub bad : (n : ℕ) → ¬ IsNumberIn given (option_at place) n
 
--- the words are taken and name a command, and the option at this place is the first without a number in its range
+-- the words are taken and name a command, and the option at this place is the first without a
+-- number in its range
 pub record IsBadNumber (words : List (List ℕ)) (place : ℕ) : Type 0 where
   pub command : Command
   pub operand : List ℕ
   pub taken : IsTaken words (command_word command) operand
   pub first : IsFirstBad (rows_of_line words) place
 
--- The table of faults: what holds of the words where `read_line` answers with each. Want of memory may come at any time.
+-- The table of faults: what holds of the words where `read_line` answers with each. Want of memory
+-- may come at any time.
 abbrev pub IsFaultOf : List (List ℕ) → LineFault → Type 0
 IsFaultOf words fault.Words = AreNoWords words
 IsFaultOf words fault.Command = IsNoCommand words

@@ -3,7 +3,8 @@ use Rattle.std.specs.Prelude.{ℕ, List, [], ◌∷◌, codes, slice_index_or}
 use Rattle.command_line.specs.declared.commands.Command.{Command}
 use Rattle.command_line.specs.declared.commands.Command.TheVariants as command
 
--- an option: its word behind the two dashes, its smallest number, its number where it is not given, and its largest
+-- an option: its word behind the two dashes, its smallest number, its number where it is not given,
+-- and its largest
 pub record OptionRow : Type 0 where
   pub word : List ℕ
   pub least : ℕ

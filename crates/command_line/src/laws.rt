@@ -7,11 +7,13 @@ ghost use Rattle.command_line.specs.Line.{IsLine, IsFaultOf, IsInRange};
 
 /// The words of a line ask for one request, and its numbers are in range.
 pub fn a_line_asks_for_one_request()
-    ensures one { (words : List (List ℕ)) (r s : Request) → IsLine words r → IsLine words s → r ≡ s }
+    ensures one { (words : List (List ℕ)) (r s : Request) → IsLine words r → IsLine words s
+        → r ≡ s }
     ensures range { (words : List (List ℕ)) (r : Request) → IsLine words r → IsInRange r }
 {}
 
 /// The words of a line have no fault but want of memory.
 pub fn a_line_has_no_fault()
-    ensures { (words : List (List ℕ)) (r : Request) (fault : LineFault) → IsLine words r → IsFaultOf words fault → fault ≡ Memory }
+    ensures { (words : List (List ℕ)) (r : Request) (fault : LineFault) → IsLine words r
+        → IsFaultOf words fault → fault ≡ Memory }
 {}

@@ -17,13 +17,48 @@ pub(crate) const OPTION_COUNT: usize = 7;
 
 /// The table of options.
 static OPTIONS: [OptionRow; OPTION_COUNT] = [
-    OptionRow { word: "subsets", least: 1, usual: 2_000, most: 4_096 },
-    OptionRow { word: "elements", least: 1, usual: 10_000, most: 50_000 },
-    OptionRow { word: "table", least: 1, usual: 2_000, most: 8_000 },
-    OptionRow { word: "nodes", least: 1, usual: 200_000, most: 1_000_000 },
-    OptionRow { word: "level", least: 1, usual: 6, most: 12 },
-    OptionRow { word: "pairs", least: 1, usual: 20_000, most: 100_000 },
-    OptionRow { word: "workers", least: 1, usual: 1, most: 64 },
+    OptionRow {
+        word: "subsets",
+        least: 1,
+        usual: 2_000,
+        most: 4_096,
+    },
+    OptionRow {
+        word: "elements",
+        least: 1,
+        usual: 10_000,
+        most: 50_000,
+    },
+    OptionRow {
+        word: "table",
+        least: 1,
+        usual: 2_000,
+        most: 8_000,
+    },
+    OptionRow {
+        word: "nodes",
+        least: 1,
+        usual: 200_000,
+        most: 1_000_000,
+    },
+    OptionRow {
+        word: "level",
+        least: 1,
+        usual: 6,
+        most: 12,
+    },
+    OptionRow {
+        word: "pairs",
+        least: 1,
+        usual: 20_000,
+        most: 100_000,
+    },
+    OptionRow {
+        word: "workers",
+        least: 1,
+        usual: 1,
+        most: 64,
+    },
 ];
 
 /// The option at a place of the table. Condition: the table has the place.

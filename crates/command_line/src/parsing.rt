@@ -14,7 +14,8 @@ use std::alloc::{AllocError, Global};
 /// What the words give: the value of each option that is given, and the two words.
 pub(crate) fn parse<'a>(alloc: Global, words: &'a [String]) -> Result<ArgMatches<'a>, LineFault>
     ensures taken { OnOk result (faults_of (map string_bytes words.entry.now) ≡ []) }
-    ensures found { IfOk result (λ m. rows_of (found_of m) ≡ rows_of_line (map string_bytes words.entry.now)) }
+    ensures found { IfOk result
+        (λ m. rows_of (found_of m) ≡ rows_of_line (map string_bytes words.entry.now)) }
     ensures fault { IfErr result (IsFaultOf (map string_bytes words.entry.now)) }
 {
     let Ok(command) = line_command(alloc) else {
@@ -51,8 +52,13 @@ fn words_command<'a>(alloc: Global) -> Result<Command<'a>, AllocError>
 }
 
 /// The command with one option more.
-fn with_valued<'a>(alloc: Global, command: Command<'a>, word: &'a str) -> Result<Command<'a>, AllocError>
-    ensures { IfOk result (λ c. app_of c ≡ with_rule (app_of command.entry) (valued word.entry.now)) }
+fn with_valued<'a>(
+    alloc: Global,
+    command: Command<'a>,
+    word: &'a str,
+) -> Result<Command<'a>, AllocError>
+    ensures { IfOk result
+        (λ c. app_of c ≡ with_rule (app_of command.entry) (valued word.entry.now)) }
 {
     command.arg(valued_arg(alloc, word))
 }

@@ -47,14 +47,18 @@ pub fn read_line(alloc: Global, words: &[String]) -> Result<Request, LineFault>
 
 /// The number of each option, in the order of their table.
 fn read_numbers(matches: &ArgMatches<'_>) -> Result<[u32; OPTION_COUNT], LineFault>
-    ensures numbers { IfOk result (λ numbers. AreNumbersIn (rows_of (found_of matches.now)) numbers) }
-    ensures number { IfErr result (λ fault. (place : ℕ) × (fault ≡ LineFault.Number place) × IsFirstBad (rows_of (found_of matches.now)) place) }
+    ensures numbers { IfOk result
+        (λ numbers. AreNumbersIn (rows_of (found_of matches.now)) numbers) }
+    ensures number { IfErr result (λ fault. (place : ℕ) × (fault ≡ LineFault.Number place)
+        × IsFirstBad (rows_of (found_of matches.now)) place) }
 {
     let mut numbers = [0; OPTION_COUNT];
     for place in 0..OPTION_COUNT {
         match read_option(matches, option_at(place)) {
             Some(number) => numbers[place] = number,
-            None => return Err(LineFault::Number { option: place as u8 }),
+            None => return Err(LineFault::Number {
+                option: place as u8,
+            }),
         }
     }
     Ok(numbers)
@@ -64,8 +68,10 @@ fn read_numbers(matches: &ArgMatches<'_>) -> Result<[u32; OPTION_COUNT], LineFau
 fn read_option(matches: &ArgMatches<'_>, option: OptionRow) -> Option<u32>
     requires least { option.least ≤ option.usual }
     requires most { option.usual ≤ option.most }
-    ensures some { IfSome result (λ n. IsNumberIn (rows_of (found_of matches.now)) (row option.word.now option.least option.usual option.most) n) }
-    ensures none { IsNone result → (n : ℕ) → ¬ IsNumberIn (rows_of (found_of matches.now)) (row option.word.now option.least option.usual option.most) n }
+    ensures some { IfSome result (λ n. IsNumberIn (rows_of (found_of matches.now))
+        (row option.word.now option.least option.usual option.most) n) }
+    ensures none { IsNone result → (n : ℕ) → ¬ IsNumberIn (rows_of (found_of matches.now))
+        (row option.word.now option.least option.usual option.most) n }
 {
     match value_of(matches, option.word) {
         Some(text) => read_number(text, option.least, option.most),

@@ -11,22 +11,62 @@ const USUAL: [u32; 7] = [2_000, 10_000, 2_000, 200_000, 6, 20_000, 1];
 /// A line about the file `f`, and the numbers of its options.
 const LINES: [(&[&str], [u32; 7]); 8] = [
     (&["automaton", "f"], USUAL),
-    (&["automaton", "--elements", "6", "f"], [2_000, 6, 2_000, 200_000, 6, 20_000, 1]),
-    (&["automaton", "--elements=6", "f"], [2_000, 6, 2_000, 200_000, 6, 20_000, 1]),
-    (&["--elements", "6", "automaton", "f"], [2_000, 6, 2_000, 200_000, 6, 20_000, 1]),
-    (&["automaton", "f", "--elements", "6"], [2_000, 6, 2_000, 200_000, 6, 20_000, 1]),
+    (
+        &["automaton", "--elements", "6", "f"],
+        [2_000, 6, 2_000, 200_000, 6, 20_000, 1],
+    ),
+    (
+        &["automaton", "--elements=6", "f"],
+        [2_000, 6, 2_000, 200_000, 6, 20_000, 1],
+    ),
+    (
+        &["--elements", "6", "automaton", "f"],
+        [2_000, 6, 2_000, 200_000, 6, 20_000, 1],
+    ),
+    (
+        &["automaton", "f", "--elements", "6"],
+        [2_000, 6, 2_000, 200_000, 6, 20_000, 1],
+    ),
     (&["automaton", "--", "f"], USUAL),
     (
         &[
-            "automaton", "--subsets", "1", "--elements", "1", "--table", "1", "--nodes", "1", "--level", "1",
-            "--pairs", "1", "--workers", "1", "f",
+            "automaton",
+            "--subsets",
+            "1",
+            "--elements",
+            "1",
+            "--table",
+            "1",
+            "--nodes",
+            "1",
+            "--level",
+            "1",
+            "--pairs",
+            "1",
+            "--workers",
+            "1",
+            "f",
         ],
         [1, 1, 1, 1, 1, 1, 1],
     ),
     (
         &[
-            "automaton", "--subsets", "4096", "--elements", "50000", "--table", "8000", "--nodes", "1000000",
-            "--level", "12", "--pairs", "100000", "--workers", "64", "f",
+            "automaton",
+            "--subsets",
+            "4096",
+            "--elements",
+            "50000",
+            "--table",
+            "8000",
+            "--nodes",
+            "1000000",
+            "--level",
+            "12",
+            "--pairs",
+            "100000",
+            "--workers",
+            "64",
+            "f",
         ],
         [4_096, 50_000, 8_000, 1_000_000, 12, 100_000, 64],
     ),
@@ -40,7 +80,10 @@ const FAULTS: [(&[&str], LineFault); 28] = [
     (&["automaton", "--colour", "1", "f"], LineFault::Words),
     (&["automaton", "--subsets", "f"], LineFault::Words),
     (&["automaton", "f", "--subsets"], LineFault::Words),
-    (&["automaton", "--subsets", "5", "--subsets", "5", "f"], LineFault::Words),
+    (
+        &["automaton", "--subsets", "5", "--subsets", "5", "f"],
+        LineFault::Words,
+    ),
     (&["automaton", "-s", "5", "f"], LineFault::Words),
     (&["automaton", "--sub", "5", "f"], LineFault::Words),
     (&["automaton", "-f"], LineFault::Words),
@@ -49,19 +92,58 @@ const FAULTS: [(&[&str], LineFault); 28] = [
     (&["words", "f"], LineFault::Command),
     (&["Automaton", "f"], LineFault::Command),
     (&["words", "--nodes", "x", "f"], LineFault::Command),
-    (&["automaton", "--subsets", "0", "f"], LineFault::Number { option: 0 }),
-    (&["automaton", "--subsets", "4097", "f"], LineFault::Number { option: 0 }),
-    (&["automaton", "--elements", "50001", "f"], LineFault::Number { option: 1 }),
-    (&["automaton", "--table", "8001", "f"], LineFault::Number { option: 2 }),
-    (&["automaton", "--nodes", "x", "f"], LineFault::Number { option: 3 }),
-    (&["automaton", "--nodes", "1000001", "f"], LineFault::Number { option: 3 }),
-    (&["automaton", "--level", "13", "f"], LineFault::Number { option: 4 }),
-    (&["automaton", "--pairs=", "f"], LineFault::Number { option: 5 }),
-    (&["automaton", "--pairs", "100001", "f"], LineFault::Number { option: 5 }),
-    (&["automaton", "--workers", "0", "f"], LineFault::Number { option: 6 }),
-    (&["automaton", "--workers", "65", "f"], LineFault::Number { option: 6 }),
-    (&["automaton", "--workers", "01", "f"], LineFault::Number { option: 6 }),
-    (&["automaton", "--workers", "0", "--level", "0", "f"], LineFault::Number { option: 4 }),
+    (
+        &["automaton", "--subsets", "0", "f"],
+        LineFault::Number { option: 0 },
+    ),
+    (
+        &["automaton", "--subsets", "4097", "f"],
+        LineFault::Number { option: 0 },
+    ),
+    (
+        &["automaton", "--elements", "50001", "f"],
+        LineFault::Number { option: 1 },
+    ),
+    (
+        &["automaton", "--table", "8001", "f"],
+        LineFault::Number { option: 2 },
+    ),
+    (
+        &["automaton", "--nodes", "x", "f"],
+        LineFault::Number { option: 3 },
+    ),
+    (
+        &["automaton", "--nodes", "1000001", "f"],
+        LineFault::Number { option: 3 },
+    ),
+    (
+        &["automaton", "--level", "13", "f"],
+        LineFault::Number { option: 4 },
+    ),
+    (
+        &["automaton", "--pairs=", "f"],
+        LineFault::Number { option: 5 },
+    ),
+    (
+        &["automaton", "--pairs", "100001", "f"],
+        LineFault::Number { option: 5 },
+    ),
+    (
+        &["automaton", "--workers", "0", "f"],
+        LineFault::Number { option: 6 },
+    ),
+    (
+        &["automaton", "--workers", "65", "f"],
+        LineFault::Number { option: 6 },
+    ),
+    (
+        &["automaton", "--workers", "01", "f"],
+        LineFault::Number { option: 6 },
+    ),
+    (
+        &["automaton", "--workers", "0", "--level", "0", "f"],
+        LineFault::Number { option: 4 },
+    ),
 ];
 
 fn listed(alloc: Global, words: &[&str]) -> Result<Vec<String>, Fail> {
@@ -73,14 +155,24 @@ fn listed(alloc: Global, words: &[&str]) -> Result<Vec<String>, Fail> {
 }
 
 /// Holds that the words ask for the command `automaton` on this file with these numbers.
-fn is_line<R: Abort + AllocGlobal>(rt: &R, words: &[&str], operand: &str, numbers: [u32; 7]) -> Result<(), Fail> {
+fn is_line<R: Abort + AllocGlobal>(
+    rt: &R,
+    words: &[&str],
+    operand: &str,
+    numbers: [u32; 7],
+) -> Result<(), Fail> {
     let list = listed(rt.alloc(), words)?;
     let request = read_line(rt.alloc(), list.as_slice())?;
     assert_eq!(rt; request.command, Command::Automaton);
     assert_eq!(rt; request.operand.text(), operand);
     assert_eq!(rt;
         [
-            request.subsets, request.elements, request.table, request.nodes, request.level, request.pairs,
+            request.subsets,
+            request.elements,
+            request.table,
+            request.nodes,
+            request.level,
+            request.pairs,
             request.workers,
         ],
         numbers

@@ -23,7 +23,8 @@ said-nothing {a} whole = record {
 pub said-then : {a b c : Channel} {p q : List ℕ} → IsSaid a b p → IsSaid b c q → IsSaid a c (p ++ q)
 said-then {a} {b} {c} {p} {q} first second = record {
   prefix = first.prefix ++ second.prefix;
-  written = Appends-trans a.given b.given c.given first.prefix second.prefix first.written second.written;
+  written = Appends-trans a.given b.given c.given first.prefix second.prefix first.written
+      second.written;
   rest = append_assoc first.prefix second.prefix c.buffer.bytes
       ∙ ap (λ x. first.prefix ++ x) second.rest
       ∙ sym (append_assoc first.prefix b.buffer.bytes q)
@@ -32,7 +33,8 @@ said-then {a} {b} {c} {p} {q} first second = record {
 }
 
 -- broken off before a further text
-pub broken-before : {a b : Channel} {p : List ℕ} (q : List ℕ) → IsBrokenOff a b p → IsBrokenOff a b (p ++ q)
+pub broken-before : {a b : Channel} {p : List ℕ} (q : List ℕ) → IsBrokenOff a b p
+    → IsBrokenOff a b (p ++ q)
 broken-before {a} {b} {p} q off = record {
   prefix = off.prefix;
   rest = off.rest ++ q;
@@ -43,7 +45,8 @@ broken-before {a} {b} {p} q off = record {
 }
 
 -- broken off after a text
-pub broken-after : {a b c : Channel} {p q : List ℕ} → IsSaid a b p → IsBrokenOff b c q → IsBrokenOff a c (p ++ q)
+pub broken-after : {a b c : Channel} {p q : List ℕ} → IsSaid a b p → IsBrokenOff b c q
+    → IsBrokenOff a c (p ++ q)
 broken-after {a} {b} {c} {p} {q} said off = record {
   prefix = said.prefix ++ off.prefix;
   rest = off.rest;
@@ -71,7 +74,8 @@ says-then (Err f) said rose next = record {
 }
 
 -- the fault of a call is handed on, and a further text is not said
-pub says-raised : {T U : Type 0} {a b : Channel} {p : List ℕ} {f : SayFault} (r : Result U SayFault) (q : List ℕ)
+pub says-raised : {T U : Type 0} {a b : Channel} {p : List ℕ} {f : SayFault} (r : Result U SayFault)
+    (q : List ℕ)
     → IsErrAnd r (λ e. e ≡ f) → Says {T = T} a (Err f) b p → Says a r b (p ++ q)
 says-raised {T} {U} {a} {b} {p} {f} r q raised call =
     let is = err_from_is_err_and r raised in
@@ -85,7 +89,8 @@ says-raised {T} {U} {a} {b} {p} {f} r q raised call =
 
 -- one piece more of what is left is said
 pub up_to-said : {T : Type 0} {a b c : Channel} {text left piece more : List ℕ} (x : T)
-    → IsSaidUpTo a b text left → piece ++ more ≡ left → Says b (Ok x) c piece → IsSaidUpTo a c text more
+    → IsSaidUpTo a b text left → piece ++ more ≡ left → Says b (Ok x) c piece
+    → IsSaidUpTo a c text more
 up_to-said {T} {a} {b} {c} {text} {left} {piece} {more} x h splits call = record {
   done = h.done ++ piece;
   splits = append_assoc h.done piece more ∙ ap (λ y. h.done ++ y) splits ∙ h.splits;
@@ -94,7 +99,8 @@ up_to-said {T} {a} {b} {c} {text} {left} {piece} {more} x h splits call = record
 }
 
 -- one piece more of what is left is broken off
-pub up_to-raised : {T U : Type 0} {a b c : Channel} {text left piece : List ℕ} {f : SayFault} (r : Result U SayFault) (more : List ℕ)
+pub up_to-raised : {T U : Type 0} {a b c : Channel} {text left piece : List ℕ} {f : SayFault}
+    (r : Result U SayFault) (more : List ℕ)
     → IsSaidUpTo a b text left → piece ++ more ≡ left → IsErrAnd r (λ e. e ≡ f)
     → Says {T = T} b (Err f) c piece → Says a r c text
 up_to-raised {T} {U} {a} {b} {c} {text} {left} {piece} r more h splits raised call =
@@ -114,21 +120,32 @@ pub lines-said : {T : Type 0} {a b c : Channel} {head : List ℕ} {line : ℕ �
 lines-said {T} {a} {b} {c} {head} {line} {n} x h call = record {
   said =
       let P : List ℕ → Type 0 = λ y. IsSaid a c y in
-      rw add-one (subst P (append_assoc head (texts_below line n) (line n)) (said-then h.said call.said));
+      rw add-one (subst P (append_assoc head (texts_below line n) (line n))
+      (said-then h.said call.said));
   count = omega (arith, h.count, call.count);
 }
 
 -- the lines from a place on
-lines_left : (line : ℕ → List ℕ) (n left : ℕ) → (rest : List ℕ) × (texts_below line n ++ rest ≡ texts_below line (n + left))
-lines_left line n zero = ([], append-nil (texts_below line n) ∙ ap (texts_below line) (let e : n ≡ n + zero = omega arith in e))
+lines_left : (line : ℕ → List ℕ) (n left : ℕ)
+    → (rest : List ℕ) × (texts_below line n ++ rest ≡ texts_below line (n + left))
+lines_left line n zero = (
+  [],
+  append-nil (texts_below line n)
+      ∙ ap (texts_below line) (let e : n ≡ n + zero = omega arith in e),
+)
 lines_left line n (suc left) =
     let h = lines_left line n left in
-    let e : suc (n + left) ≡ n + suc left = omega arith in
-    (h.0 ++ line (n + left), sym (append_assoc (texts_below line n) h.0 (line (n + left))) ∙ ap (λ y. y ++ line (n + left)) h.1 ∙ ap (texts_below line) e)
+    let e : suc (n + left) ≡ n + suc left = omega arith in (
+      h.0 ++ line (n + left),
+      sym (append_assoc (texts_below line n) h.0 (line (n + left)))
+          ∙ ap (λ y. y ++ line (n + left)) h.1 ∙ ap (texts_below line) e,
+    )
 
 -- a line is broken off, and those behind it are not said
-pub lines-raised : {T U : Type 0} {a b c : Channel} {head : List ℕ} {line : ℕ → List ℕ} {n size : ℕ} {f : SayFault} (r : Result U SayFault)
-    → AreLinesSaid a b head line n → n < size → IsErrAnd r (λ e. e ≡ f) → Says {T = T} b (Err f) c (line n)
+pub lines-raised : {T U : Type 0} {a b c : Channel} {head : List ℕ} {line : ℕ → List ℕ} {n size : ℕ}
+    {f : SayFault} (r : Result U SayFault)
+    → AreLinesSaid a b head line n → n < size → IsErrAnd r (λ e. e ≡ f)
+    → Says {T = T} b (Err f) c (line n)
     → Says a r c (head ++ texts_below line size)
 lines-raised {T} {U} {a} {b} {c} {head} {line} {n} {size} {f} r h below raised call =
     let left = lines_left line (n + 1) (size - (n + 1)) in
@@ -137,5 +154,6 @@ lines-raised {T} {U} {a} {b} {c} {head} {line} {n} {size} {f} r h below raised c
     let first : texts_below line (n + 1) ≡ texts_below line n ++ line n = rw add-one refl in
     subst P
     (append_assoc head (texts_below line n) (line n ++ left.0)
-    ∙ ap (λ y. head ++ y) (sym (append_assoc (texts_below line n) (line n) left.0) ∙ ap (λ y. y ++ left.0) (sym first) ∙ left.1 ∙ ap (texts_below line) whole))
+    ∙ ap (λ y. head ++ y) (sym (append_assoc (texts_below line n) (line n) left.0)
+    ∙ ap (λ y. y ++ left.0) (sym first) ∙ left.1 ∙ ap (texts_below line) whole))
     (says-then r h.said h.count (says-raised r left.0 raised call))

@@ -14,7 +14,8 @@ targets_text graph i = texts_below (λ a. codes " " ++ decimal (target graph i a
 -- a number, the least word, whether it is in the language, and the next state for each letter
 abbrev pub state_text : List ℕ → MinimalAutomaton → ℕ → List ℕ
 state_text signs m i =
-    decimal i ++ codes " " ++ word_text signs (word_at m.words i) ++ codes " " ++ membership_text (is_marked m.finals i)
+    decimal i ++ codes " " ++ word_text signs (word_at m.words i) ++ codes " " ++ membership_text
+    (is_marked m.finals i)
     ++ targets_text m.graph i ++ codes "\n"
 
 -- the letters, and the number of states

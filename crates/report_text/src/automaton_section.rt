@@ -23,7 +23,9 @@ pub fn say_automaton<S: Sink>(
 ) -> Result<(), SayFault>
     requires letters { dfa.now.graph.letters ≡ length alphabet.now }
     requires whole { buffer.old.broken ≡ false }
-    ensures { Says (channel (S.written sink.old) (S.faults sink.old) buffer.old) result (channel (S.written sink.new) (S.faults sink.new) buffer.new) (automaton_text alphabet.now dfa.now) }
+    ensures { Says (channel (S.written sink.old) (S.faults sink.old) buffer.old) result
+        (channel (S.written sink.new) (S.faults sink.new) buffer.new)
+        (automaton_text alphabet.now dfa.now) }
 {
     let mut line = Vec::new(alloc);
     let head = push_head(&mut line, alphabet, dfa);
@@ -47,10 +49,16 @@ fn push_head(text: &mut Vec<u8>, alphabet: &Alphabet, dfa: &MinDfa) -> Result<()
 }
 
 /// Puts the line of a state behind a text.
-fn push_state(text: &mut Vec<u8>, alphabet: &Alphabet, dfa: &MinDfa, state: u32) -> Result<(), Memory>
+fn push_state(
+    text: &mut Vec<u8>,
+    alphabet: &Alphabet,
+    dfa: &MinDfa,
+    state: u32,
+) -> Result<(), Memory>
     requires letters { dfa.now.graph.letters ≡ length alphabet.now }
     requires state { state < dfa.now.graph.size }
-    ensures { OnOk result (text.new.items ≡ text.old.items ++ state_text alphabet.now dfa.now state) }
+    ensures { OnOk result
+        (text.new.items ≡ text.old.items ++ state_text alphabet.now dfa.now state) }
 {
     push_number(text, state)?;
     push_bytes(text, b" ")?;

@@ -51,7 +51,8 @@ impl Model for Buffer {
 
     ghost view = { λ b. record { bytes = b.bytes.items; broken = b.broken } };
 
-    ghost invariant = { λ b. (length b.bytes.items ≤ ROOM) × (ROOM ≤ vec_capacity b.bytes) × (b.broken ≡ false → length b.bytes.items < ROOM) };
+    ghost invariant = { λ b. (length b.bytes.items ≤ ROOM) × (ROOM ≤ vec_capacity b.bytes)
+        × (b.broken ≡ false → length b.bytes.items < ROOM) };
 }
 
 impl Buffer {
@@ -78,7 +79,8 @@ impl Buffer {
     fn take<S: Sink>(&mut self, sink: &mut S, piece: &[u8]) -> Result<(), SayFault>
         requires whole { self.old.broken ≡ false }
         requires room { length self.old.bytes + length piece.now ≤ ROOM }
-        ensures says { Says (channel (S.written sink.old) (S.faults sink.old) self.old) result (channel (S.written sink.new) (S.faults sink.new) self.new) piece.now }
+        ensures says { Says (channel (S.written sink.old) (S.faults sink.old) self.old) result
+            (channel (S.written sink.new) (S.faults sink.new) self.new) piece.now }
         ensures memory { IsErrOf result SayFault.Memory → ⊥ }
     {
         self.bytes.extend_from_slice(piece).unwrap();
@@ -104,7 +106,8 @@ impl Buffer {
 /// Condition: the buffer is not broken.
 pub fn say<S: Sink>(sink: &mut S, buffer: &mut Buffer, text: &[u8]) -> Result<(), SayFault>
     requires { buffer.old.broken ≡ false }
-    ensures says { Says (channel (S.written sink.old) (S.faults sink.old) buffer.old) result (channel (S.written sink.new) (S.faults sink.new) buffer.new) text.now }
+    ensures says { Says (channel (S.written sink.old) (S.faults sink.old) buffer.old) result
+        (channel (S.written sink.new) (S.faults sink.new) buffer.new) text.now }
     ensures memory { IsErrOf result SayFault.Memory → ⊥ }
 {
     let mut rest = text;
@@ -121,7 +124,8 @@ pub fn say<S: Sink>(sink: &mut S, buffer: &mut Buffer, text: &[u8]) -> Result<()
 /// buffer is not broken.
 pub fn flush<S: Sink>(sink: &mut S, buffer: &mut Buffer) -> Result<(), SayFault>
     requires { buffer.old.broken ≡ false }
-    ensures says { Says (channel (S.written sink.old) (S.faults sink.old) buffer.old) result (channel (S.written sink.new) (S.faults sink.new) buffer.new) [] }
+    ensures says { Says (channel (S.written sink.old) (S.faults sink.old) buffer.old) result
+        (channel (S.written sink.new) (S.faults sink.new) buffer.new) [] }
     ensures empty { OnOk result (buffer.new.bytes ≡ []) }
     ensures memory { IsErrOf result SayFault.Memory → ⊥ }
 {
@@ -135,9 +139,16 @@ pub fn flush<S: Sink>(sink: &mut S, buffer: &mut Buffer) -> Result<(), SayFault>
 
 /// Says a line that was rendered, and leaves it empty for the next one. A line that was not rendered breaks the
 /// buffer. Condition: the buffer is not broken.
-pub(crate) fn say_rendered<S: Sink>(sink: &mut S, buffer: &mut Buffer, rendered: Result<(), Memory>, line: &mut Vec<u8>) -> Result<(), SayFault>
+pub(crate) fn say_rendered<S: Sink>(
+    sink: &mut S,
+    buffer: &mut Buffer,
+    rendered: Result<(), Memory>,
+    line: &mut Vec<u8>,
+) -> Result<(), SayFault>
     requires { buffer.old.broken ≡ false }
-    ensures says { (text : List ℕ) → OnOk rendered (line.old.items ≡ text) → Says (channel (S.written sink.old) (S.faults sink.old) buffer.old) result (channel (S.written sink.new) (S.faults sink.new) buffer.new) text }
+    ensures says { (text : List ℕ) → OnOk rendered (line.old.items ≡ text)
+        → Says (channel (S.written sink.old) (S.faults sink.old) buffer.old) result
+        (channel (S.written sink.new) (S.faults sink.new) buffer.new) text }
     ensures empty { OnOk result (line.new.items ≡ []) }
 {
     if rendered.is_err() {

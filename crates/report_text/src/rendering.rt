@@ -43,7 +43,8 @@ pub(crate) fn push_word(text: &mut Vec<u8>, alphabet: &Alphabet, word: &Word) ->
 /// Puts letters behind a text, one after another.
 fn push_letters(text: &mut Vec<u8>, alphabet: &Alphabet, letters: &[u8]) -> Result<(), Memory>
     requires { Over (length alphabet.now) letters.now }
-    ensures { OnOk result (text.new.items ≡ text.old.items ++ letters_text alphabet.now letters.now) }
+    ensures { OnOk result
+        (text.new.items ≡ text.old.items ++ letters_text alphabet.now letters.now) }
 {
     for letter in letters {
         push_letter(text, alphabet, *letter)?;

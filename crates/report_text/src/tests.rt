@@ -1,4 +1,5 @@
 //! A long text in pieces, and a section.
+ghost use Rattle.std.specs.Prelude.{◌≡◌, false};
 
 use crate::{Buffer, SayFault, flush, say, say_automaton};
 use std::alloc::Global;
@@ -40,7 +41,10 @@ fn a_long_text_is_written_in_pieces(rt: HostRuntime) -> Result<(), Fail> {
     for (failing, fault, written) in rows {
         let mut sink = MemSink::new(alloc, 200_000, 65_536, failing)?;
         let mut buffer = Buffer::new(alloc)?;
-        assert_eq!(&rt; say_thrice(&mut sink, &mut buffer, text.as_slice()).err(), fault);
+        assert_eq!(&rt;
+            say_thrice(&mut sink, &mut buffer, text.as_slice()).err(),
+            fault
+        );
         assert_eq!(&rt; sink.bytes().len(), written);
         for (place, byte) in sink.bytes().iter().enumerate() {
             assert_eq!(&rt; *byte, (place % 50_000 % 251) as u8);
@@ -57,7 +61,8 @@ fn a_buffer_holds_what_is_not_yet_written(rt: HostRuntime) -> Result<(), Fail> {
     let mut buffer = Buffer::new(alloc)?;
     say(&mut sink, &mut buffer, text.as_slice())?;
     assert_eq!(&rt; buffer.held(), 50_000);
-    say(&mut sink, &mut buffer, &text.as_slice()[..15_535])?;
+    let (part, _) = text.as_slice().split_at(15_535.min(text.len()));
+    say(&mut sink, &mut buffer, part)?;
     assert_eq!(&rt; buffer.held(), 65_535);
     say(&mut sink, &mut buffer, b"a")?;
     assert_eq!(&rt; buffer.held(), 0);
@@ -82,7 +87,7 @@ fn says_the_section_of_one_word(rt: HostRuntime) -> Result<(), Fail> {
     flush(&mut sink, &mut buffer)?;
     assert_eq!(&rt;
         sink.bytes(),
-        b"automaton\nalphabet ba\nstates 4\n0 1 out 1 2\n1 b out 2 3\n2 a out 2 2\n3 ba in 2 2\n"
+        b"automaton\nalphabet ba\nstates 4\n0 1 out 1 2\n1 b out 2 3\n2 a out 2 2\n3 ba in 2 2\n".as_slice()
     );
     Ok(())
 }

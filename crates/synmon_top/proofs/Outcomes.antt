@@ -30,13 +30,18 @@ use Rattle.synmon_top.specs.declared.ending.Stop.TheVariants as stop
 elements_not_needed : (c : Command) → ¬ NeedsElements c
 elements_not_needed command.Automaton needs = needs
 
-unstopped : (request : Request) (source : SourceText) → ¬ HasMoreSubsets source request.subsets → (s : Stop) → ¬ IsStop (task_of request) source s
-unstopped request source few (stop.Subsets n) (same, more) = few (subst (HasMoreSubsets source) same more)
-unstopped request source few (stop.Elements n) (needs, within, same, more) = elements_not_needed request.command needs
+unstopped : (request : Request) (source : SourceText) → ¬ HasMoreSubsets source request.subsets
+    → (s : Stop) → ¬ IsStop (task_of request) source s
+unstopped request source few (stop.Subsets n) (same, more) =
+    few (subst (HasMoreSubsets source) same more)
+unstopped request source few (stop.Elements n) (needs, within, same, more) =
+    elements_not_needed request.command needs
 
 -- what the sections say about a source that nothing stops
-pub report_on : (bytes : List ℕ) (request : Request) (source : SourceText) (text : Said) → IsSource bytes source → ¬ HasMoreSubsets source request.subsets
-    → AreSaid (sections_of request.command) (limits_of request) source.letters (language_of source) text → IsReportOn bytes (task_of request) text
+pub report_on : (bytes : List ℕ) (request : Request) (source : SourceText) (text : Said)
+    → IsSource bytes source → ¬ HasMoreSubsets source request.subsets
+    → AreSaid (sections_of request.command) (limits_of request) source.letters (language_of source)
+    text → IsReportOn bytes (task_of request) text
 report_on bytes request source text spelled few says = record {
   source = source;
   spelled = spelled;
@@ -45,7 +50,8 @@ report_on bytes request source text spelled few says = record {
 }
 
 -- a prefix of a file that is one byte too long, or all of it, has the verdict of the file
-verdict_of_prefix : (file : List ℕ) (task : Task) (v : Verdict) → IsVerdict (take (most_bytes + 1) file) task v → IsVerdict file task v
+verdict_of_prefix : (file : List ℕ) (task : Task) (v : Verdict)
+    → IsVerdict (take (most_bytes + 1) file) task v → IsVerdict file task v
 verdict_of_prefix file task (said text) on = record {
   source = on.source;
   spelled = subst (λ b. IsSource b on.source) (front_spells file on.source on.spelled) on.spelled;
@@ -60,75 +66,97 @@ verdict_of_prefix file task (stopped s) on = record {
 verdict_of_prefix file task (refused at code) h = front_refused file at code h
 
 -- the verdict on what was read of a file is due
-due : (held : Option NamedFiles) (words : List (List ℕ)) (bytes : List ℕ) (request : Request) (v : Verdict) → IsVerdict bytes (task_of request) v
-    → IsLine words request → HasPrefix held request.operand (most_bytes + 1) bytes → IsDue held words v
-due None words bytes request v holds line prefix = record { request = request; line = line; bytes = bytes; about = tt; holds = holds }
+due : (held : Option NamedFiles) (words : List (List ℕ)) (bytes : List ℕ) (request : Request)
+    (v : Verdict) → IsVerdict bytes (task_of request) v
+    → IsLine words request → HasPrefix held request.operand (most_bytes + 1) bytes
+    → IsDue held words v
+due None words bytes request v holds line prefix =
+    record { request = request; line = line; bytes = bytes; about = tt; holds = holds }
 due (Some files) words bytes request v holds line (file, named, prefix) = record {
   request = request;
   line = line;
   bytes = file;
   about = named;
-  holds = verdict_of_prefix file (task_of request) v (subst (λ b. IsVerdict b (task_of request) v) prefix holds);
+  holds = verdict_of_prefix file (task_of request) v
+      (subst (λ b. IsVerdict b (task_of request) v) prefix holds);
 }
 
-pub ends_refused : (bytes : List ℕ) (request : Request) (at code : ℕ) (old : Option (List ℕ)) → IsRefusal bytes at code → EndsOn bytes request (ending.Refused at code) old old
+pub ends_refused : (bytes : List ℕ) (request : Request) (at code : ℕ) (old : Option (List ℕ))
+    → IsRefusal bytes at code → EndsOn bytes request (ending.Refused at code) old old
 ends_refused bytes request at code old h = record {
   out = [];
-  outcome = λ held words line prefix. (due held words bytes request (refused at code) h line prefix, refl);
+  outcome = λ held words line prefix.
+      (due held words bytes request (refused at code) h line prefix, refl);
   gained = Appends-nil old;
 }
 
-pub ends_stopped : (bytes : List ℕ) (request : Request) (source : SourceText) (old : Option (List ℕ)) → IsSource bytes source → HasMoreSubsets source request.subsets
+pub ends_stopped : (bytes : List ℕ) (request : Request) (source : SourceText)
+    (old : Option (List ℕ)) → IsSource bytes source → HasMoreSubsets source request.subsets
     → EndsOn bytes request (ending.Stopped (stop.Subsets request.subsets)) old old
 ends_stopped bytes request source old spelled more = record {
   out = [];
-  outcome = λ held words line prefix.
-      (due held words bytes request (stopped (stop.Subsets request.subsets)) (record { source = source; spelled = spelled; passed = (refl, more) }) line prefix, refl);
+  outcome = λ held words line prefix. (
+    due held words bytes request (stopped (stop.Subsets request.subsets))
+        (record { source = source; spelled = spelled; passed = (refl, more) }) line prefix,
+    refl,
+  );
   gained = Appends-nil old;
 }
 
-pub ends_without_memory : (bytes : List ℕ) (request : Request) (old : Option (List ℕ)) → EndsOn bytes request ending.NoMemory old old
-ends_without_memory bytes request old = record { out = []; outcome = λ held words line prefix. inl refl; gained = Appends-nil old }
+pub ends_without_memory : (bytes : List ℕ) (request : Request) (old : Option (List ℕ))
+    → EndsOn bytes request ending.NoMemory old old
+ends_without_memory bytes request old =
+    record { out = []; outcome = λ held words line prefix. inl refl; gained = Appends-nil old }
 
-pub ends_whole : (bytes : List ℕ) (request : Request) (text : Said) (old new : Option (List ℕ)) → IsReportOn bytes (task_of request) text → text.limited ≡ false
+pub ends_whole : (bytes : List ℕ) (request : Request) (text : Said) (old new : Option (List ℕ))
+    → IsReportOn bytes (task_of request) text → text.limited ≡ false
     → Appends old new text.text → EndsOn bytes request ending.Whole old new
 ends_whole bytes request text old new on unlimited gained = record {
   out = text.text;
   outcome = λ held words line prefix.
       due held words bytes request (said (record { text = text.text; limited = false }))
-      (subst (λ b. IsReportOn bytes (task_of request) (record { text = text.text; limited = b })) unlimited on) line prefix;
+      (subst (λ b. IsReportOn bytes (task_of request) (record { text = text.text; limited = b }))
+      unlimited on) line prefix;
   gained = gained;
 }
 
-pub ends_limited : (bytes : List ℕ) (request : Request) (text : Said) (old new : Option (List ℕ)) → IsReportOn bytes (task_of request) text → text.limited ≡ true
+pub ends_limited : (bytes : List ℕ) (request : Request) (text : Said) (old new : Option (List ℕ))
+    → IsReportOn bytes (task_of request) text → text.limited ≡ true
     → Appends old new text.text → EndsOn bytes request ending.Limited old new
 ends_limited bytes request text old new on limited gained = record {
   out = text.text;
   outcome = λ held words line prefix.
       due held words bytes request (said (record { text = text.text; limited = true }))
-      (subst (λ b. IsReportOn bytes (task_of request) (record { text = text.text; limited = b })) limited on) line prefix;
+      (subst (λ b. IsReportOn bytes (task_of request) (record { text = text.text; limited = b }))
+      limited on) line prefix;
   gained = gained;
 }
 
-pub ends_cut : (bytes : List ℕ) (request : Request) (text : Said) (old new : Option (List ℕ)) → IsReportOn bytes (task_of request) text → IsGivenPrefix old new text.text
+pub ends_cut : (bytes : List ℕ) (request : Request) (text : Said) (old new : Option (List ℕ))
+    → IsReportOn bytes (task_of request) text → IsGivenPrefix old new text.text
     → EndsOn bytes request ending.CannotWrite old new
 ends_cut bytes request text old new on cut = record {
   out = cut.prefix;
-  outcome = λ held words line prefix. (text, due held words bytes request (said text) on line prefix, cut.begins);
+  outcome = λ held words line prefix.
+      (text, due held words bytes request (said text) on line prefix, cut.begins);
   gained = cut.gained;
 }
 
-pub ends_short : (bytes : List ℕ) (request : Request) (text : Said) (old new : Option (List ℕ)) → IsReportOn bytes (task_of request) text → IsGivenPrefix old new text.text
+pub ends_short : (bytes : List ℕ) (request : Request) (text : Said) (old new : Option (List ℕ))
+    → IsReportOn bytes (task_of request) text → IsGivenPrefix old new text.text
     → EndsOn bytes request ending.NoMemory old new
 ends_short bytes request text old new on cut = record {
   out = cut.prefix;
-  outcome = λ held words line prefix. inr (text, due held words bytes request (said text) on line prefix, cut.begins);
+  outcome = λ held words line prefix.
+      inr (text, due held words bytes request (said text) on line prefix, cut.begins);
   gained = cut.gained;
 }
 
 -- the operand's file was read, and the work done on its bytes
-pub ends_of_report : (held : Option NamedFiles) (words : List (List ℕ)) (request : Request) (bytes : List ℕ) (e : Ending) (old new : Option (List ℕ))
-    → IsLine words request → HasPrefix held request.operand (most_bytes + 1) bytes → EndsOn bytes request e old new → Ends held words e old new
+pub ends_of_report : (held : Option NamedFiles) (words : List (List ℕ)) (request : Request)
+    (bytes : List ℕ) (e : Ending) (old new : Option (List ℕ))
+    → IsLine words request → HasPrefix held request.operand (most_bytes + 1) bytes
+    → EndsOn bytes request e old new → Ends held words e old new
 ends_of_report held words request bytes e old new line prefix ends = record {
   out = ends.out;
   outcome = ends.outcome held words line prefix;
@@ -136,29 +164,39 @@ ends_of_report held words request bytes e old new line prefix ends = record {
 }
 
 -- an outcome goes along with what is due
-pub outcome-along : (held : Option NamedFiles) (words others : List (List ℕ)) → (IsAccepted words ↔ IsAccepted others)
-    → ((v : Verdict) → IsDue held words v → IsDue held others v) → (e : Ending) (out : List ℕ) → Outcome held words e out → Outcome held others e out
+pub outcome-along : (held : Option NamedFiles) (words others : List (List ℕ))
+    → (IsAccepted words ↔ IsAccepted others)
+    → ((v : Verdict) → IsDue held words v → IsDue held others v) → (e : Ending) (out : List ℕ)
+    → Outcome held words e out → Outcome held others e out
 outcome-along held words others accepted goes ending.Whole out h = goes _ h
-outcome-along held words others accepted goes ending.BadLine out h = (λ line. h.0 (accepted.1 line), h.1)
+outcome-along held words others accepted goes ending.BadLine out h =
+    (λ line. h.0 (accepted.1 line), h.1)
 outcome-along held words others accepted goes ending.CannotRead out h = (accepted.0 h.0, h.1)
 outcome-along held words others accepted goes (ending.Refused at code) out h = (goes _ h.0, h.1)
 outcome-along held words others accepted goes (ending.Stopped s) out h = (goes _ h.0, h.1)
 outcome-along held words others accepted goes ending.Limited out h = goes _ h
-outcome-along held words others accepted goes ending.CannotWrite out (text, is, begins) = (text, goes _ is, begins)
+outcome-along held words others accepted goes ending.CannotWrite out (text, is, begins) =
+    (text, goes _ is, begins)
 outcome-along held words others accepted goes ending.NoMemory out (inl empty) = inl empty
-outcome-along held words others accepted goes ending.NoMemory out (inr (text, is, begins)) = inr (text, goes _ is, begins)
+outcome-along held words others accepted goes ending.NoMemory out (inr (text, is, begins)) =
+    inr (text, goes _ is, begins)
 
 -- the answers to the sections of a request, as the report on the bytes
-pub report_of_answers : (bytes : List ℕ) (request : Request) (v : Values) (sections : List Section) (answers : List Answer) → IsSource bytes v.source
+pub report_of_answers : (bytes : List ℕ) (request : Request) (v : Values) (sections : List Section)
+    (answers : List Answer) → IsSource bytes v.source
     → ¬ HasMoreSubsets v.source request.subsets → sections ≡ sections_of request.command
-    → ((limits : Limits) → AreSections sections limits v.source.letters (language_of v.source) (map (said_of v) answers))
+    → ((limits : Limits) → AreSections sections limits v.source.letters (language_of v.source)
+    (map (said_of v) answers))
     → IsReportOn bytes (task_of request) (said_of_all v answers)
 report_of_answers bytes request v sections answers spelled few same are =
-    let P : List Section → Type 0 = λ ss. AreSections ss (limits_of request) v.source.letters (language_of v.source) (map (said_of v) answers) in
-    report_on bytes request v.source (said_of_all v answers) spelled few (map (said_of v) answers, subst P same (are (limits_of request)), refl)
+    let P : List Section → Type 0 = λ ss. AreSections ss (limits_of request) v.source.letters
+    (language_of v.source) (map (said_of v) answers) in
+    report_on bytes request v.source (said_of_all v answers) spelled few
+    (map (said_of v) answers, subst P same (are (limits_of request)), refl)
 
 -- said into an empty buffer, and then written to a prefix
-pub prefix_given : {a b c : Channel} {text : List ℕ} → a.buffer.bytes ≡ [] → IsSaid a b text → IsBrokenOff b c [] → IsGivenPrefix a.given c.given text
+pub prefix_given : {a b c : Channel} {text : List ℕ} → a.buffer.bytes ≡ [] → IsSaid a b text
+    → IsBrokenOff b c [] → IsGivenPrefix a.given c.given text
 prefix_given {a} {b} {c} {text} empty is off =
     let both = broken-after is off in
     record {
@@ -173,23 +211,37 @@ on_err (Ok x) p = tt
 on_err (Err e) p = p
 
 -- words that ask for nothing
-pub ends_of_fault : (held : Option NamedFiles) (words : List (List ℕ)) (f : LineFault) (out : Option (List ℕ)) → IsFaultOf words f → Ends held words (ending_of_fault f) out out
+pub ends_of_fault : (held : Option NamedFiles) (words : List (List ℕ)) (f : LineFault)
+    (out : Option (List ℕ)) → IsFaultOf words f → Ends held words (ending_of_fault f) out out
 ends_of_fault held words line.Words out h = record {
   out = [];
-  outcome = (λ accepted. let e = line_without_fault words accepted.0 line.Words accepted.1 h in cc, refl);
+  outcome = (
+    λ accepted.
+        let e = line_without_fault words accepted.0 line.Words accepted.1 h in cc,
+    refl,
+  );
   gained = Appends-nil out;
 }
 ends_of_fault held words line.Command out h = record {
   out = [];
-  outcome = (λ accepted. let e = line_without_fault words accepted.0 line.Command accepted.1 h in cc, refl);
+  outcome = (
+    λ accepted.
+        let e = line_without_fault words accepted.0 line.Command accepted.1 h in cc,
+    refl,
+  );
   gained = Appends-nil out;
 }
 ends_of_fault held words (line.Number place) out h = record {
   out = [];
-  outcome = (λ accepted. let e = line_without_fault words accepted.0 (line.Number place) accepted.1 h in cc, refl);
+  outcome = (
+    λ accepted.
+        let e = line_without_fault words accepted.0 (line.Number place) accepted.1 h in cc,
+    refl,
+  );
   gained = Appends-nil out;
 }
-ends_of_fault held words line.Memory out h = record { out = []; outcome = inl refl; gained = Appends-nil out }
+ends_of_fault held words line.Memory out h =
+    record { out = []; outcome = inl refl; gained = Appends-nil out }
 
 pub fault_is_no_read : (f : LineFault) → ending_of_fault f ≡ ending.CannotRead → ⊥
 fault_is_no_read line.Words e = cc

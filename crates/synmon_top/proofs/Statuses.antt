@@ -52,44 +52,58 @@ only_cannot_write ending.CannotWrite h = refl
 only_cannot_write ending.NoMemory h = absurd (omega arith)
 
 -- status 2: the words are no line
-pub bad_line_told : (held : Option NamedFiles) (words : List (List ℕ)) (e : Ending) (old new : Option (List ℕ)) → Ends held words e old new
+pub bad_line_told : (held : Option NamedFiles) (words : List (List ℕ)) (e : Ending)
+    (old new : Option (List ℕ)) → Ends held words e old new
     → status_of e ≡ 2 → ¬ IsAccepted words
-bad_line_told held words e old new ends two = (subst (λ x. Outcome held words x ends.out) (only_bad_line e two) ends.outcome).0
+bad_line_told held words e old new ends two =
+    (subst (λ x. Outcome held words x ends.out) (only_bad_line e two) ends.outcome).0
 
 -- words that are no line have status 2, or 7
-without_line : (held : Option NamedFiles) (words : List (List ℕ)) (e : Ending) (out : List ℕ) → Outcome held words e out → ¬ IsAccepted words → IsOrNoMemory 2 (status_of e)
+without_line : (held : Option NamedFiles) (words : List (List ℕ)) (e : Ending) (out : List ℕ)
+    → Outcome held words e out → ¬ IsAccepted words → IsOrNoMemory 2 (status_of e)
 without_line held words ending.Whole out h none = absurd (none (h.request, h.line))
 without_line held words ending.BadLine out h none = inl refl
 without_line held words ending.CannotRead out h none = absurd (none h.0)
 without_line held words (ending.Refused at code) out h none = absurd (none (h.0.request, h.0.line))
 without_line held words (ending.Stopped s) out h none = absurd (none (h.0.request, h.0.line))
 without_line held words ending.Limited out h none = absurd (none (h.request, h.line))
-without_line held words ending.CannotWrite out (text, is, begins) none = absurd (none (is.request, is.line))
+without_line held words ending.CannotWrite out (text, is, begins) none =
+    absurd (none (is.request, is.line))
 without_line held words ending.NoMemory out h none = inr refl
 
-pub no_line_told : (held : Option NamedFiles) (words : List (List ℕ)) (e : Ending) (old new : Option (List ℕ)) → Ends held words e old new
+pub no_line_told : (held : Option NamedFiles) (words : List (List ℕ)) (e : Ending)
+    (old new : Option (List ℕ)) → Ends held words e old new
     → ¬ IsAccepted words → IsOrNoMemory 2 (status_of e)
 no_line_told held words e old new ends none = without_line held words e ends.out ends.outcome none
 
 -- a file on which a verdict is due is not lacking
-not_lacking : (held : Option NamedFiles) (words : List (List ℕ)) (v : Verdict) → HasVerdict held words v → ¬ IsLacking held words
+not_lacking : (held : Option NamedFiles) (words : List (List ℕ)) (v : Verdict)
+    → HasVerdict held words v → ¬ IsLacking held words
 not_lacking held words v has lacking =
-    let none : bytes_of lacking.request.operand has.files ≡ None = subst (λ h. Lacks h lacking.request.operand) has.told lacking.lacks in
+    let none : bytes_of lacking.request.operand has.files ≡ None =
+    subst (λ h. Lacks h lacking.request.operand) has.told lacking.lacks in
     let same = one_request words has.due.request lacking.request has.due.line lacking.line in
-    let both : Some has.due.bytes ≡ None = sym has.due.about ∙ ap (λ (r : Request). bytes_of r.operand has.files) same ∙ none in
+    let both : Some has.due.bytes ≡ None = sym has.due.about
+    ∙ ap (λ (r : Request). bytes_of r.operand has.files) same ∙ none in
     cc
 
 -- a verdict that is due decides the status, where no device that it needs fails
-pub verdict_told : (held : Option NamedFiles) (words : List (List ℕ)) (v : Verdict) (e : Ending) (old new : Option (List ℕ)) (Risen Cut : Type 0)
-    → Ends held words e old new → (e ≡ ending.CannotRead → Risen ⊎ IsLacking held words) → (e ≡ ending.CannotWrite → Cut)
-    → HasVerdict held words v → ¬ Risen → (IsText v → ¬ Cut) → IsOrNoMemory (status_of (ending_of v)) (status_of e)
+pub verdict_told : (held : Option NamedFiles) (words : List (List ℕ)) (v : Verdict) (e : Ending)
+    (old new : Option (List ℕ)) (Risen Cut : Type 0)
+    → Ends held words e old new → (e ≡ ending.CannotRead → Risen ⊎ IsLacking held words)
+    → (e ≡ ending.CannotWrite → Cut)
+    → HasVerdict held words v → ¬ Risen → (IsText v → ¬ Cut)
+    → IsOrNoMemory (status_of (ending_of v)) (status_of e)
 verdict_told held words v e old new Risen Cut ends unread unwritten has calm steady =
-    by (due_ends has.files words v e ends.out has.due (subst (λ h. Outcome h words e ends.out) has.told ends.outcome))
+    by (due_ends has.files words v e ends.out has.due
+    (subst (λ h. Outcome h words e ends.out) has.told ends.outcome))
   where
     reading : e ≡ ending.CannotRead → Risen ⊎ IsLacking held words → ⊥
     reading is (inl risen) = calm risen
     reading is (inr lacking) = not_lacking held words v has lacking
-    by : (e ≡ ending_of v) ⊎ (e ≡ ending.CannotRead) ⊎ ((e ≡ ending.CannotWrite) × IsText v) ⊎ (e ≡ ending.NoMemory)
+
+    by : (e ≡ ending_of v) ⊎ (e ≡ ending.CannotRead) ⊎ ((e ≡ ending.CannotWrite) × IsText v)
+        ⊎ (e ≡ ending.NoMemory)
         → IsOrNoMemory (status_of (ending_of v)) (status_of e)
     by (inl is) = inl (ap status_of is)
     by (inr (inl is)) = absurd (reading is (unread is))

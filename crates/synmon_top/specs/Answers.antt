@@ -23,7 +23,8 @@ AreValues v = IsMinimal (length v.source.letters) (language_of v.source) v.autom
 
 -- what the section of an answer says
 abbrev pub said_of : Values → Answer → Said
-said_of v answer.Automaton = record { text = automaton_text v.source.letters v.automaton; limited = false }
+said_of v answer.Automaton =
+    record { text = automaton_text v.source.letters v.automaton; limited = false }
 
 -- what the sections of several answers say, one after another
 abbrev pub said_of_all : Values → List Answer → Said

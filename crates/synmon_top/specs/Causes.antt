@@ -6,8 +6,10 @@ use Rattle.command_line.specs.Line.{IsLine}
 use Rattle.synmon_top.specs.Reports.{Verdict}
 use Rattle.synmon_top.specs.Outcome.{IsDue}
 
--- the files are told, the words are a line, and this is the verdict on the bytes of its operand's file
-pub record HasVerdict (held : Option NamedFiles) (words : List (List ℕ)) (verdict : Verdict) : Type 0 where
+-- the files are told, the words are a line, and this is the verdict on the bytes of its operand's
+-- file
+pub record HasVerdict (held : Option NamedFiles) (words : List (List ℕ)) (verdict : Verdict) : Type
+    0 where
   pub files : NamedFiles
   pub told : held ≡ Some files
   pub due : IsDue (Some files) words verdict
@@ -25,4 +27,5 @@ IsOrNoMemory status result = (result ≡ status) ⊎ (result ≡ 7)
 -- the statuses that a run answers with
 abbrev pub IsStatus : ℕ → Type 0
 IsStatus status =
-    (status ≡ 0) ⊎ (status ≡ 2) ⊎ (status ≡ 3) ⊎ (status ≡ 4) ⊎ (status ≡ 5) ⊎ (status ≡ 6) ⊎ (status ≡ 7)
+    (status ≡ 0) ⊎ (status ≡ 2) ⊎ (status ≡ 3) ⊎ (status ≡ 4) ⊎ (status ≡ 5) ⊎ (status ≡ 6)
+    ⊎ (status ≡ 7)

@@ -38,7 +38,8 @@ abbrev pub line_of : Ending → List ℕ
 line_of ending.Whole = []
 line_of ending.BadLine = codes "synmon: bad command line\n"
 line_of ending.CannotRead = codes "synmon: cannot read\n"
-line_of (ending.Refused at code) = codes "synmon: line " ++ decimal at ++ codes " code " ++ decimal code ++ codes "\n"
+line_of (ending.Refused at code) =
+    codes "synmon: line " ++ decimal at ++ codes " code " ++ decimal code ++ codes "\n"
 line_of (ending.Stopped stop) = codes "synmon: limit " ++ stop_text stop ++ codes "\n"
 line_of ending.Limited = []
 line_of ending.CannotWrite = codes "synmon: cannot write\n"
@@ -50,12 +51,13 @@ AreBytesOf None request bytes = ⊤
 AreBytesOf (Some files) request bytes = bytes_of request.operand files ≡ Some bytes
 
 -- the words are a line, and this is the verdict on the bytes that it is about
-pub record IsDue (held : Option NamedFiles) (words : List (List ℕ)) (verdict : Verdict) : Type 0 where
-  pub request : Request
-  pub line : IsLine words request
-  pub bytes : List ℕ
-  pub about : AreBytesOf held request bytes
-  pub holds : IsVerdict bytes (task_of request) verdict
+pub record IsDue (held : Option NamedFiles) (words : List (List ℕ)) (verdict : Verdict) : Type 0
+  where
+    pub request : Request
+    pub line : IsLine words request
+    pub bytes : List ℕ
+    pub about : AreBytesOf held request bytes
+    pub holds : IsVerdict bytes (task_of request) verdict
 
 -- a prefix of the text that is due
 abbrev pub BeginsDue : Option NamedFiles → List (List ℕ) → List ℕ → Type 0
@@ -63,12 +65,14 @@ BeginsDue held words out = (text : Said) × IsDue held words (said text) × IsPr
 
 -- The table of endings: what holds of the files, of the words, and of what `out` gained.
 abbrev pub Outcome : Option NamedFiles → List (List ℕ) → Ending → List ℕ → Type 0
-Outcome held words ending.Whole out = IsDue held words (said (record { text = out; limited = false }))
+Outcome held words ending.Whole out =
+    IsDue held words (said (record { text = out; limited = false }))
 Outcome held words ending.BadLine out = (¬ IsAccepted words) × (out ≡ [])
 Outcome held words ending.CannotRead out = IsAccepted words × (out ≡ [])
 Outcome held words (ending.Refused at code) out = IsDue held words (refused at code) × (out ≡ [])
 Outcome held words (ending.Stopped stop) out = IsDue held words (stopped stop) × (out ≡ [])
-Outcome held words ending.Limited out = IsDue held words (said (record { text = out; limited = true }))
+Outcome held words ending.Limited out =
+    IsDue held words (said (record { text = out; limited = true }))
 Outcome held words ending.CannotWrite out = BeginsDue held words out
 Outcome held words ending.NoMemory out = (out ≡ []) ⊎ BeginsDue held words out
 
@@ -79,7 +83,8 @@ ending_of_fault line.Command = ending.BadLine
 ending_of_fault (line.Number place) = ending.BadLine
 ending_of_fault line.Memory = ending.NoMemory
 
--- the endings that the words and the bytes decide: those that no device and no want of memory brings about
+-- the endings that the words and the bytes decide: those that no device and no want of memory
+-- brings about
 abbrev pub IsDecided : Ending → Type 0
 IsDecided ending.Whole = ⊤
 IsDecided ending.BadLine = ⊤
@@ -91,19 +96,22 @@ IsDecided ending.CannotWrite = ⊥
 IsDecided ending.NoMemory = ⊥
 
 -- a sink gained a line, or a prefix of it where its count of faults rose
-pub record IsTold (old new : Option (List ℕ)) (faults_old faults_new : ℕ) (line : List ℕ) : Type 0 where
-  pub told : List ℕ
-  pub gained : Appends old new told
-  pub whole : (told ≡ line) ⊎ (IsPrefix told line × Rose faults_old faults_new)
+pub record IsTold (old new : Option (List ℕ)) (faults_old faults_new : ℕ) (line : List ℕ) : Type 0
+  where
+    pub told : List ℕ
+    pub gained : Appends old new told
+    pub whole : (told ≡ line) ⊎ (IsPrefix told line × Rose faults_old faults_new)
 
 -- a run ended so, and `out` gained what the table says
-pub record Ends (held : Option NamedFiles) (words : List (List ℕ)) (end : Ending) (old new : Option (List ℕ)) : Type 0 where
+pub record Ends (held : Option NamedFiles) (words : List (List ℕ)) (end : Ending)
+    (old new : Option (List ℕ)) : Type 0 where
   pub out : List ℕ
   pub outcome : Outcome held words end out
   pub gained : Appends old new out
 
 -- The outcome of a run: how it ended, with which status, and what `errs` was told of it.
-pub record Runs (held : Option NamedFiles) (words : List (List ℕ)) (status : ℕ) (old new errs_old errs_new : Option (List ℕ)) (faults_old faults_new : ℕ) : Type 0 where
+pub record Runs (held : Option NamedFiles) (words : List (List ℕ)) (status : ℕ)
+    (old new errs_old errs_new : Option (List ℕ)) (faults_old faults_new : ℕ) : Type 0 where
   pub end : Ending
   pub ends : Ends held words end old new
   pub answer : status ≡ status_of end
@@ -116,7 +124,8 @@ pub record IsGivenPrefix (old new : Option (List ℕ)) (text : List ℕ) : Type 
   pub begins : IsPrefix prefix text
 
 -- the work for a request on the bytes that were read ended so, and `out` gained what the table says
-pub record EndsOn (bytes : List ℕ) (request : Request) (end : Ending) (old new : Option (List ℕ)) : Type 0 where
+pub record EndsOn (bytes : List ℕ) (request : Request) (end : Ending)
+    (old new : Option (List ℕ)) : Type 0 where
   pub out : List ℕ
   pub outcome : (held : Option NamedFiles) (words : List (List ℕ)) → IsLine words request
       → HasPrefix held request.operand (most_bytes + 1) bytes → Outcome held words end out

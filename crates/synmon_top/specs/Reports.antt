@@ -19,7 +19,8 @@ pub record Task : Type 0 where
 abbrev pub task_of : Request → Task
 task_of r = record { command = r.command; limits = limits_of r }
 
--- all words together lead to more than n distinct sets of states of the source's automaton: that of the file, or the position automaton of its expression
+-- all words together lead to more than n distinct sets of states of the source's automaton: that of
+-- the file, or the position automaton of its expression
 abbrev pub HasMoreSubsets : SourceText → ℕ → Type 0
 HasMoreSubsets source n =
     (m : Automaton) × IsBodyAutomaton (length source.letters) source.body m
@@ -27,30 +28,36 @@ HasMoreSubsets source n =
 
 -- the syntactic monoid of the source's language has more than n elements
 abbrev pub HasMoreElements : SourceText → ℕ → Type 0
-HasMoreElements source n = HasMoreClasses (length source.letters) (Syntactic (length source.letters) (language_of source)) n
+HasMoreElements source n = HasMoreClasses (length source.letters)
+    (Syntactic (length source.letters) (language_of source)) n
 
 -- the command needs the elements of the syntactic monoid
 abbrev pub NeedsElements : Command → Type 0
 NeedsElements command.Automaton = ⊥
 
--- Before a section is made, two counts are compared with their limits: first the sets of states, and then the elements, if the command needs them.
+-- Before a section is made, two counts are compared with their limits: first the sets of states,
+-- and then the elements, if the command needs them.
 abbrev pub IsStop : Task → SourceText → Stop → Type 0
 IsStop task source (stop.Subsets n) = (n ≡ task.limits.subsets) × HasMoreSubsets source n
 IsStop task source (stop.Elements n) =
-    NeedsElements task.command × (¬ HasMoreSubsets source task.limits.subsets) × (n ≡ task.limits.elements) × HasMoreElements source n
+    NeedsElements task.command × (¬ HasMoreSubsets source task.limits.subsets)
+    × (n ≡ task.limits.elements) × HasMoreElements source n
 
--- what a task on a file has as its answer: what its sections say, or the count that stops it, or the line and the code of a refusal
+-- what a task on a file has as its answer: what its sections say, or the count that stops it, or
+-- the line and the code of a refusal
 pub data Verdict : Type 0 where
   said : Said → Verdict
   stopped : Stop → Verdict
   refused : (at code : ℕ) → Verdict
 
--- the bytes spell a source that nothing stops, and this is what the sections of the command say about its language
+-- the bytes spell a source that nothing stops, and this is what the sections of the command say
+-- about its language
 pub record IsReportOn (bytes : List ℕ) (task : Task) (text : Said) : Type 0 where
   pub source : SourceText
   pub spelled : IsSource bytes source
   pub unstopped : (stop : Stop) → ¬ IsStop task source stop
-  pub report : AreSaid (sections_of task.command) task.limits source.letters (language_of source) text
+  pub report : AreSaid (sections_of task.command) task.limits source.letters (language_of source)
+      text
 
 -- the bytes spell a source that is stopped
 pub record IsStopOn (bytes : List ℕ) (task : Task) (stop : Stop) : Type 0 where

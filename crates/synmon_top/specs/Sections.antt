@@ -20,7 +20,15 @@ pub record Limits : Type 0 where
 
 -- those of a request; its number of workers is none of them
 abbrev pub limits_of : Request → Limits
-limits_of r = record { subsets = r.subsets; elements = r.elements; table = r.table; nodes = r.nodes; level = r.level; pairs = r.pairs }
+limits_of r = record {
+  subsets = r.subsets;
+  elements = r.elements;
+  table = r.table;
+  nodes =
+      r.nodes;
+  level = r.level;
+  pairs = r.pairs;
+}
 
 -- The table of commands: the sections that a command prints, in their order.
 abbrev pub sections_of : Command → List Section
@@ -38,7 +46,8 @@ pub record IsAutomatonSection (signs : List ℕ) (L : List ℕ → Type 0) (said
   pub text : said.text ≡ automaton_text signs automaton
   pub unlimited : said.limited ≡ false
 
--- The table of sections: what each says about the language L over the letters with these signs, within the limits.
+-- The table of sections: what each says about the language L over the letters with these signs,
+-- within the limits.
 abbrev pub IsSection : Section → Limits → List ℕ → (List ℕ → Type 0) → Said → Type 0
 IsSection section.Automaton limits signs L said = IsAutomatonSection signs L said
 
@@ -47,12 +56,15 @@ abbrev pub AreSections : List Section → Limits → List ℕ → (List ℕ → 
 AreSections [] limits signs L [] = ⊤
 AreSections [] limits signs L (one ∷ more) = ⊥
 AreSections (first ∷ rest) limits signs L [] = ⊥
-AreSections (first ∷ rest) limits signs L (one ∷ more) = IsSection first limits signs L one × AreSections rest limits signs L more
+AreSections (first ∷ rest) limits signs L (one ∷ more) = IsSection first limits signs L one
+    × AreSections rest limits signs L more
 
 -- The texts of several sections are joined; one of their answers is a limit, or none.
 abbrev pub joined : List Said → Said
-joined all = record { text = flat_map (λ one. one.text) all; limited = list_any (λ one. one.limited) all }
+joined all = record
+    { text = flat_map (λ one. one.text) all; limited = list_any (λ one. one.limited) all }
 
 -- what these sections say together
 abbrev pub AreSaid : List Section → Limits → List ℕ → (List ℕ → Type 0) → Said → Type 0
-AreSaid sections limits signs L said = (all : List Said) × AreSections sections limits signs L all × (said ≡ joined all)
+AreSaid sections limits signs L said = (all : List Said) × AreSections sections limits signs L all
+    × (said ≡ joined all)

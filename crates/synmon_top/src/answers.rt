@@ -41,9 +41,16 @@ impl Answer {
 }
 
 /// The answers of sections, in their order. Condition: the automaton is that of the source's language.
-pub(crate) fn answer_sections(alloc: Global, sections: &[Section], values: &Values<'_>) -> Result<Vec<Answer>, Memory>
+pub(crate) fn answer_sections(
+    alloc: Global,
+    sections: &[Section],
+    values: &Values<'_>,
+) -> Result<Vec<Answer>, Memory>
     requires { AreValues (values_of values.now) }
-    ensures { IfOk result (λ answers. (limits : Limits) → AreSections sections.now limits (values_of values.now).source.letters (language_of (values_of values.now).source) (map (said_of (values_of values.now)) answers.items)) }
+    ensures { IfOk result (λ answers. (limits : Limits)
+        → AreSections sections.now limits (values_of values.now).source.letters
+        (language_of (values_of values.now).source)
+        (map (said_of (values_of values.now)) answers.items)) }
 {
     let mut answers = Vec::with_capacity(alloc, sections.len())?;
     for section in sections {
@@ -55,7 +62,9 @@ pub(crate) fn answer_sections(alloc: Global, sections: &[Section], values: &Valu
 /// The answer of a section. Condition: the automaton is that of the source's language.
 fn answer_section(section: Section, values: &Values<'_>) -> Result<Answer, Memory>
     requires { AreValues (values_of values.now) }
-    ensures { IfOk result (λ answer. (limits : Limits) → IsSection section limits (values_of values.now).source.letters (language_of (values_of values.now).source) (said_of (values_of values.now) answer)) }
+    ensures { IfOk result (λ answer. (limits : Limits)
+        → IsSection section limits (values_of values.now).source.letters
+        (language_of (values_of values.now).source) (said_of (values_of values.now) answer)) }
 {
     match section {
         Section::Automaton => Ok(Answer::Automaton),
@@ -84,7 +93,9 @@ pub(crate) fn say_answers<S: Sink>(
 ) -> Result<(), SayFault>
     requires values { AreValues (values_of values.now) }
     requires whole { buffer.old.broken ≡ false }
-    ensures { Says (channel (S.written sink.old) (S.faults sink.old) buffer.old) result (channel (S.written sink.new) (S.faults sink.new) buffer.new) (said_of_all (values_of values.now) answers.now).text }
+    ensures { Says (channel (S.written sink.old) (S.faults sink.old) buffer.old) result
+        (channel (S.written sink.new) (S.faults sink.new) buffer.new)
+        (said_of_all (values_of values.now) answers.now).text }
 {
     for answer in answers {
         say_answer(alloc, sink, buffer, values, answer)?;
@@ -102,9 +113,17 @@ fn say_answer<S: Sink>(
 ) -> Result<(), SayFault>
     requires values { AreValues (values_of values.now) }
     requires whole { buffer.old.broken ≡ false }
-    ensures { Says (channel (S.written sink.old) (S.faults sink.old) buffer.old) result (channel (S.written sink.new) (S.faults sink.new) buffer.new) (said_of (values_of values.now) answer.now).text }
+    ensures { Says (channel (S.written sink.old) (S.faults sink.old) buffer.old) result
+        (channel (S.written sink.new) (S.faults sink.new) buffer.new)
+        (said_of (values_of values.now) answer.now).text }
 {
     match answer {
-        Answer::Automaton => say_automaton(alloc, sink, buffer, &values.source.alphabet, values.dfa),
+        Answer::Automaton => say_automaton(
+            alloc,
+            sink,
+            buffer,
+            &values.source.alphabet,
+            values.dfa,
+        ),
     }
 }

@@ -54,7 +54,8 @@ impl Ending {
 
 /// Writes the line of an ending. Where the sink fails, a prefix of the line is written.
 pub fn tell<E: Sink>(errs: &mut E, ending: Ending)
-    ensures told { IsTold (E.written errs.old) (E.written errs.new) (E.faults errs.old) (E.faults errs.new) (line_of ending) }
+    ensures told { IsTold (E.written errs.old) (E.written errs.new) (E.faults errs.old)
+        (E.faults errs.new) (line_of ending) }
     ensures count { E.faults errs.old ≤ E.faults errs.new }
 {
     match ending {
@@ -71,7 +72,9 @@ pub fn tell<E: Sink>(errs: &mut E, ending: Ending)
 
 /// Writes the line and the code of a refusal.
 fn tell_refusal<E: Sink>(errs: &mut E, line: u32, code: u8)
-    ensures told { IsTold (E.written errs.old) (E.written errs.new) (E.faults errs.old) (E.faults errs.new) (codes "synmon: line " ++ decimal line ++ codes " code " ++ decimal code ++ codes "\n") }
+    ensures told { IsTold (E.written errs.old) (E.written errs.new) (E.faults errs.old)
+        (E.faults errs.new)
+        (codes "synmon: line " ++ decimal line ++ codes " code " ++ decimal code ++ codes "\n") }
     ensures count { E.faults errs.old ≤ E.faults errs.new }
 {
     let mut line_digits = itoa::Buffer::new();
@@ -83,7 +86,8 @@ fn tell_refusal<E: Sink>(errs: &mut E, line: u32, code: u8)
 
 /// Writes which count passed its limit, and the limit.
 fn tell_stop<E: Sink>(errs: &mut E, count: &str, most: u32)
-    ensures told { IsTold (E.written errs.old) (E.written errs.new) (E.faults errs.old) (E.faults errs.new) (codes "synmon: limit " ++ (count.now ++ decimal most) ++ codes "\n") }
+    ensures told { IsTold (E.written errs.old) (E.written errs.new) (E.faults errs.old)
+        (E.faults errs.new) (codes "synmon: limit " ++ (count.now ++ decimal most) ++ codes "\n") }
     ensures count { E.faults errs.old ≤ E.faults errs.new }
 {
     let mut digits = itoa::Buffer::new();
@@ -92,7 +96,8 @@ fn tell_stop<E: Sink>(errs: &mut E, count: &str, most: u32)
 
 /// Writes the parts of a line, one after another until the sink fails.
 fn tell_parts<E: Sink>(errs: &mut E, parts: &[&str])
-    ensures told { IsTold (E.written errs.old) (E.written errs.new) (E.faults errs.old) (E.faults errs.new) (concat (map (λ part. part.now) parts.now)) }
+    ensures told { IsTold (E.written errs.old) (E.written errs.new) (E.faults errs.old)
+        (E.faults errs.new) (concat (map (λ part. part.now) parts.now)) }
     ensures count { E.faults errs.old ≤ E.faults errs.new }
 {
     for part in parts {

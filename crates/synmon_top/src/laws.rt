@@ -10,10 +10,14 @@ ghost use Rattle.synmon_top.specs.declared.ending.Ending.{Ending};
 /// The files and the words decide the outcome: of the endings that no device and no want of memory brings about, only
 /// one can come, with one text.
 pub fn the_outcome_is_unique()
-    ensures { (files : NamedFiles) (words : List (List ℕ)) (e f : Ending) (out other : List ℕ) → Outcome (Some files) words e out → Outcome (Some files) words f other → IsDecided e → IsDecided f → (e ≡ f) × (out ≡ other) }
+    ensures { (files : NamedFiles) (words : List (List ℕ)) (e f : Ending) (out other : List ℕ)
+        → Outcome (Some files) words e out → Outcome (Some files) words f other → IsDecided e
+        → IsDecided f → (e ≡ f) × (out ≡ other) }
 {}
 
 /// Lines whose requests differ in the number of workers alone have the same outcomes.
 pub fn workers_change_no_outcome()
-    ensures { (held : Option NamedFiles) (words others : List (List ℕ)) (r s : Request) → IsLine words r → IsLine others s → r ≡ record s { workers = r.workers } → (e : Ending) (out : List ℕ) → Outcome held words e out → Outcome held others e out }
+    ensures { (held : Option NamedFiles) (words others : List (List ℕ)) (r s : Request)
+        → IsLine words r → IsLine others s → r ≡ record s { workers = r.workers }
+        → (e : Ending) (out : List ℕ) → Outcome held words e out → Outcome held others e out }
 {}

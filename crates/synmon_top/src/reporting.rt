@@ -59,19 +59,28 @@ fn minimal_of(alloc: Global, source: &Source, max_subsets: u32) -> Result<MinDfa
     requires subsets { max_subsets ≤ 4096 }
     requires sound { IsSoundSource (source_text source.now) }
     requires buildable { CanBuild (length source.now.alphabet) (body_text source.now.body) }
-    ensures minimal { IfOk result (λ dfa. IsMinimal (length source.now.alphabet) (language_of (source_text source.now)) dfa) }
+    ensures minimal { IfOk result (λ dfa. IsMinimal (length source.now.alphabet)
+        (language_of (source_text source.now)) dfa) }
     ensures few { OnOk result (¬ HasMoreSubsets (source_text source.now) max_subsets) }
-    ensures many { IsErrOf result MinFault.SubsetLimit → HasMoreSubsets (source_text source.now) max_subsets }
+    ensures many { IsErrOf result MinFault.SubsetLimit
+        → HasMoreSubsets (source_text source.now) max_subsets }
 {
     let nfa = body_nfa(alloc, source)?;
     minimal(alloc, &nfa, max_subsets)
 }
 
 /// Writes the sections of the answers.
-fn print<O: Sink>(alloc: Global, values: &Values<'_>, answers: &[Answer], out: &mut O) -> Result<(), SayFault>
+fn print<O: Sink>(
+    alloc: Global,
+    values: &Values<'_>,
+    answers: &[Answer],
+    out: &mut O,
+) -> Result<(), SayFault>
     requires { AreValues (values_of values.now) }
-    ensures whole { OnOk result (Appends (O.written out.old) (O.written out.new) (said_of_all (values_of values.now) answers.now).text) }
-    ensures cut { OnErr result (IsGivenPrefix (O.written out.old) (O.written out.new) (said_of_all (values_of values.now) answers.now).text) }
+    ensures whole { OnOk result (Appends (O.written out.old) (O.written out.new)
+        (said_of_all (values_of values.now) answers.now).text) }
+    ensures cut { OnErr result (IsGivenPrefix (O.written out.old) (O.written out.new)
+        (said_of_all (values_of values.now) answers.now).text) }
     ensures failed { IsErrOf result SayFault.Write → Rose (O.faults out.old) (O.faults out.new) }
     ensures count { O.faults out.old ≤ O.faults out.new }
 {

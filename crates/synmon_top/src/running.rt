@@ -32,17 +32,32 @@ pub fn run<R: Threads + Sync, F: Files, O: Sink, E: Sink, G: Gate + Sync>(
     errs: &mut E,
     _gate: &G,
 ) -> u8
-    ensures outcome { Runs (F.held files.old) (map string_bytes words.now) result (O.written out.old) (O.written out.new) (E.written errs.old) (E.written errs.new) (E.faults errs.old) (E.faults errs.new) }
+    ensures outcome { Runs (F.held files.old) (map string_bytes words.now) result
+        (O.written out.old) (O.written out.new) (E.written errs.old) (E.written errs.new)
+        (E.faults errs.old) (E.faults errs.new) }
     ensures status { IsStatus result }
     ensures bad_line { result ≡ 2 → ¬ IsAccepted (map string_bytes words.now) }
     ensures no_line { (¬ IsAccepted (map string_bytes words.now)) → IsOrNoMemory 2 result }
-    ensures untouched { (¬ IsAccepted (map string_bytes words.now)) → (F.ready files.new ≡ F.ready files.old) × (F.left files.new ≡ F.left files.old) × (F.faults files.new ≡ F.faults files.old) }
-    ensures cannot_read { result ≡ 3 → Rose (F.faults files.old) (F.faults files.new) ⊎ IsLacking (F.held files.old) (map string_bytes words.now) }
-    ensures refused { (at code : ℕ) → HasVerdict (F.held files.old) (map string_bytes words.now) (refused at code) → (¬ Rose (F.faults files.old) (F.faults files.new)) → IsOrNoMemory 4 result }
-    ensures stopped { (stop : Stop) → HasVerdict (F.held files.old) (map string_bytes words.now) (stopped stop) → (¬ Rose (F.faults files.old) (F.faults files.new)) → IsOrNoMemory 5 result }
-    ensures limited { (text : List ℕ) → HasVerdict (F.held files.old) (map string_bytes words.now) (said (record { text = text; limited = true })) → (¬ Rose (F.faults files.old) (F.faults files.new)) → (¬ Rose (O.faults out.old) (O.faults out.new)) → IsOrNoMemory 5 result }
+    ensures untouched { (¬ IsAccepted (map string_bytes words.now))
+        → (F.ready files.new ≡ F.ready files.old) × (F.left files.new ≡ F.left files.old)
+        × (F.faults files.new ≡ F.faults files.old) }
+    ensures cannot_read { result ≡ 3 → Rose (F.faults files.old) (F.faults files.new)
+        ⊎ IsLacking (F.held files.old) (map string_bytes words.now) }
+    ensures refused { (at code : ℕ) → HasVerdict (F.held files.old) (map string_bytes words.now)
+        (refused at code) → (¬ Rose (F.faults files.old) (F.faults files.new))
+        → IsOrNoMemory 4 result }
+    ensures stopped { (stop : Stop) → HasVerdict (F.held files.old) (map string_bytes words.now)
+        (stopped stop) → (¬ Rose (F.faults files.old) (F.faults files.new))
+        → IsOrNoMemory 5 result }
+    ensures limited { (text : List ℕ) → HasVerdict (F.held files.old) (map string_bytes words.now)
+        (said (record { text = text; limited = true }))
+        → (¬ Rose (F.faults files.old) (F.faults files.new))
+        → (¬ Rose (O.faults out.old) (O.faults out.new)) → IsOrNoMemory 5 result }
     ensures cannot_write { result ≡ 6 → Rose (O.faults out.old) (O.faults out.new) }
-    ensures complete { (text : List ℕ) → HasVerdict (F.held files.old) (map string_bytes words.now) (said (record { text = text; limited = false })) → (¬ Rose (F.faults files.old) (F.faults files.new)) → (¬ Rose (O.faults out.old) (O.faults out.new)) → IsOrNoMemory 0 result }
+    ensures complete { (text : List ℕ) → HasVerdict (F.held files.old) (map string_bytes words.now)
+        (said (record { text = text; limited = false }))
+        → (¬ Rose (F.faults files.old) (F.faults files.new))
+        → (¬ Rose (O.faults out.old) (O.faults out.new)) → IsOrNoMemory 0 result }
     ensures held { F.held files.new ≡ F.held files.old }
     ensures files_count { F.faults files.old ≤ F.faults files.new }
     ensures out_count { O.faults out.old ≤ O.faults out.new }
@@ -55,10 +70,16 @@ pub fn run<R: Threads + Sync, F: Files, O: Sink, E: Sink, G: Gate + Sync>(
 
 /// Writes the text that the words ask for to `out`, and says how that ended.
 fn answer<F: Files, O: Sink>(alloc: Global, words: &[String], files: &mut F, out: &mut O) -> Ending
-    ensures ends { Ends (F.held files.old) (map string_bytes words.now) result (O.written out.old) (O.written out.new) }
-    ensures untouched { (¬ IsAccepted (map string_bytes words.now)) → (F.ready files.new ≡ F.ready files.old) × (F.left files.new ≡ F.left files.old) × (F.faults files.new ≡ F.faults files.old) }
-    ensures cannot_read { result ≡ Ending.CannotRead → Rose (F.faults files.old) (F.faults files.new) ⊎ IsLacking (F.held files.old) (map string_bytes words.now) }
-    ensures cannot_write { result ≡ Ending.CannotWrite → Rose (O.faults out.old) (O.faults out.new) }
+    ensures ends { Ends (F.held files.old) (map string_bytes words.now) result (O.written out.old)
+        (O.written out.new) }
+    ensures untouched { (¬ IsAccepted (map string_bytes words.now))
+        → (F.ready files.new ≡ F.ready files.old) × (F.left files.new ≡ F.left files.old)
+        × (F.faults files.new ≡ F.faults files.old) }
+    ensures cannot_read { result ≡ Ending.CannotRead
+        → Rose (F.faults files.old) (F.faults files.new)
+        ⊎ IsLacking (F.held files.old) (map string_bytes words.now) }
+    ensures cannot_write { result ≡ Ending.CannotWrite
+        → Rose (O.faults out.old) (O.faults out.new) }
     ensures held { F.held files.new ≡ F.held files.old }
     ensures files_count { F.faults files.old ≤ F.faults files.new }
     ensures out_count { O.faults out.old ≤ O.faults out.new }

@@ -331,8 +331,18 @@ fn a_run_over_real_files_reads_the_named_file(rt: HostRuntime) -> Result<(), Fai
         let mut files = RealFiles::new(&rt);
         let mut out = MemSink::new(rt.alloc(), 1_000, 1_000, &[])?;
         let mut errs = MemSink::new(rt.alloc(), WHOLE_LINE, 100, &[])?;
-        let got = run(&rt, rt.alloc(), words.as_slice(), &mut files, &mut out, &mut errs, &OpenGate);
-        told.push(got == status && out.bytes() == text.as_bytes() && errs.bytes() == line.as_bytes())?;
+        let got = run(
+            &rt,
+            rt.alloc(),
+            words.as_slice(),
+            &mut files,
+            &mut out,
+            &mut errs,
+            &OpenGate,
+        );
+        told.push(
+            got == status && out.bytes() == text.as_bytes() && errs.bytes() == line.as_bytes(),
+        )?;
     }
     fs::remove_file(&rt, name)?;
     assert!(rt; is_written);

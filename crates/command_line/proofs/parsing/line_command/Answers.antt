@@ -11,7 +11,9 @@ loop-place-init c = ap (with_options options) c.in_ok-command.ensures
 
 pub loop-place-preserved : goal.loop-place-preserved
 loop-place-preserved c =
-    with_options-next c.loop-place.place options (row [] 0 0 0) (app_of c.loop-place.command) (app_of c.in_ok-command-2.command)
+    with_options-next c.loop-place.place options (row [] 0 0 0) (app_of c.loop-place.command)
+    (app_of c.in_ok-command-2.command)
     c.loop-place-test.true
-    (c.in_ok-command-2.ensures ∙ ap (λ (option : OptionRow). with_rule (app_of c.loop-place.command) (valued option.word)) c.option_at.ensures.row)
+    (c.in_ok-command-2.ensures ∙ ap (λ (option : OptionRow). with_rule (app_of c.loop-place.command)
+    (valued option.word)) c.option_at.ensures.row)
     ∙ c.loop-place.invariant

@@ -38,6 +38,7 @@ returns c = record {
         | inl memory ↦ c.in_default-kind.not-OutOfMemory (c.kind.ensures ∙ memory)
         | inr among ↦
             subst (λ kinds. IsAmong (kind_of c.in-Err.fault) kinds)
-            (ap (λ (a : App). fault_of a (map (string_bytes {Z = Global}) c.args.words.now)) same ∙ taken.faultless) among
+            (ap (λ (a : App). fault_of a (map (string_bytes {Z = Global}) c.args.words.now)) same
+            ∙ taken.faultless) among
       ];
 }

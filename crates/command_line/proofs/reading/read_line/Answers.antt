@@ -9,7 +9,9 @@ use Rattle.command_line.proofs.reading.read_line.Goals as goal
 
 pub returns-in_default-command_of-clause-fault : goal.returns-in_default-command_of-clause-fault
 returns-in_default-command_of-clause-fault c =
-    let given : rows_of (found_of c.in_ok-matches.matches) ≡ rows_of_line (map (string_bytes {Z = Global}) c.args.words.now) = c.in_ok-matches.ensures.found in
+    let given : rows_of (found_of c.in_ok-matches.matches)
+    ≡ rows_of_line (map (string_bytes {Z = Global}) c.args.words.now) =
+    c.in_ok-matches.ensures.found in
     record {
       word = c.in-Some.word.now;
       operand = c.in-Some-value_of.operand.now;
@@ -23,10 +25,14 @@ returns-in_default-command_of-clause-fault c =
 
 pub returns-in_err-numbers-clause-fault : goal.returns-in_err-numbers-clause-fault
 returns-in_err-numbers-clause-fault c =
-    let given : rows_of (found_of c.in_ok-matches.matches) ≡ rows_of_line (map (string_bytes {Z = Global}) c.args.words.now) = c.in_ok-matches.ensures.found in
+    let given : rows_of (found_of c.in_ok-matches.matches)
+    ≡ rows_of_line (map (string_bytes {Z = Global}) c.args.words.now) =
+    c.in_ok-matches.ensures.found in
     let bad = c.in_err-numbers.ensures.number in
-    let p = err_from_is_err_and c.from_residual-in_err-numbers.result c.from_residual-in_err-numbers.ensures.1 in
-    let P : LineFault → Type 0 = λ fault. IsFaultOf (map (string_bytes {Z = Global}) c.args.words.now) fault in
+    let p = err_from_is_err_and c.from_residual-in_err-numbers.result
+    c.from_residual-in_err-numbers.ensures.1 in
+    let P : LineFault
+    → Type 0 = λ fault. IsFaultOf (map (string_bytes {Z = Global}) c.args.words.now) fault in
     rw (p.1, p.2) (subst P (sym bad.1) (record {
       command = c.in-Some-command_of.command;
       operand = c.in-Some-value_of.operand.now;

@@ -7,4 +7,5 @@ use Rattle.command_line.proofs.reading.read_numbers.Given as goal
 -- there is a number for each option, and the options before this place have theirs
 abbrev pub invariant-loop-place : goal.invariant-loop-place
 invariant-loop-place l = (length l.numbers ≡ 7)
-    × ((i : ℕ) → i < l.place → IsNumberIn (rows_of (found_of l.matches)) (option_at i) (get_or l.numbers i 0))
+    × ((i : ℕ) → i < l.place
+    → IsNumberIn (rows_of (found_of l.matches)) (option_at i) (get_or l.numbers i 0))

@@ -8,4 +8,5 @@ use Rattle.report_text.proofs.automaton_section.push_targets.Given as goal
 -- the targets for the letters before this one stand behind the text that was there
 abbrev pub invariant-loop-letter : goal.invariant-loop-letter
 invariant-loop-letter l =
-    l.text.items ≡ l.fn.text.items ++ texts_below (λ a. codes " " ++ decimal (target l.dfa.graph l.state a)) l.letter
+    l.text.items ≡ l.fn.text.items ++ texts_below
+    (λ a. codes " " ++ decimal (target l.dfa.graph l.state a)) l.letter

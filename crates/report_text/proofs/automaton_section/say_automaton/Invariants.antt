@@ -9,6 +9,7 @@ invariant-loop-state g l =
     let now = channel (g.S.Sink.written l.sink) (g.S.Sink.faults l.sink) l.buffer in
     let before = channel (g.S.Sink.written l.fn.sink) (g.S.Sink.faults l.fn.sink) l.fn.buffer in
     record {
-      lines : AreLinesSaid before now (automaton_head l.alphabet l.dfa) (state_text l.alphabet l.dfa) l.state;
+      lines : AreLinesSaid before now (automaton_head l.alphabet l.dfa)
+          (state_text l.alphabet l.dfa) l.state;
       empty : l.line.items ≡ [];
     }

@@ -10,7 +10,10 @@ pub loop-section-preserved : goal.loop-section-preserved
 loop-section-preserved c = λ limits.
     let v = values_of c.args.values.now in
     let P : List Answer → Type 0 = λ answers.
-        AreSections (take (c.loop-section.section-index + 1) c.args.sections.now) limits v.source.letters (language_of v.source) (map (said_of v) answers) in
+    AreSections (take (c.loop-section.section-index + 1) c.args.sections.now) limits
+    v.source.letters (language_of v.source) (map (said_of v) answers) in
     subst P (sym c.in_ok-push.ensures.items)
-    (sections-next (said_of v) limits v.source.letters (language_of v.source) c.args.sections.now c.loop-section.section-index _ c.loop-section.answers.items
-    c.in_ok-answer_section.field-0 c.loop-section-test.true (c.loop-section.invariant limits) (c.in_ok-answer_section.ensures limits))
+    (sections-next (said_of v) limits v.source.letters (language_of v.source) c.args.sections.now
+    c.loop-section.section-index _ c.loop-section.answers.items
+    c.in_ok-answer_section.field-0 c.loop-section-test.true (c.loop-section.invariant limits)
+    (c.in_ok-answer_section.ensures limits))

@@ -8,4 +8,5 @@ use Rattle.synmon_top.proofs.answers.answer_sections.Given as goal
 abbrev pub invariant-loop-section : goal.invariant-loop-section
 invariant-loop-section l =
     let v = values_of l.values in
-    (limits : Limits) → AreSections (take l.section-index l.sections) limits v.source.letters (language_of v.source) (map (said_of v) l.answers.items)
+    (limits : Limits) → AreSections (take l.section-index l.sections) limits v.source.letters
+    (language_of v.source) (map (said_of v) l.answers.items)

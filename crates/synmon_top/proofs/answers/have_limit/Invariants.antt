@@ -7,5 +7,6 @@ use Rattle.synmon_top.proofs.answers.have_limit.Given as goal
 -- no answer before this one is a limit
 abbrev pub invariant-loop-answer : goal.invariant-loop-answer
 invariant-loop-answer l =
-    list_any (λ (one : Said). one.limited) (map (said_of (values_of l.values)) (drop l.answer-index l.answers))
+    list_any (λ (one : Said). one.limited)
+    (map (said_of (values_of l.values)) (drop l.answer-index l.answers))
     ≡ list_any (λ (one : Said). one.limited) (map (said_of (values_of l.values)) l.answers)

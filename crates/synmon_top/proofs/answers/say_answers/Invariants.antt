@@ -9,4 +9,5 @@ invariant-loop-answer g l =
     let now = channel (g.S.Sink.written l.sink) (g.S.Sink.faults l.sink) l.buffer in
     let before = channel (g.S.Sink.written l.fn.sink) (g.S.Sink.faults l.fn.sink) l.fn.buffer in
     let v = values_of l.values in
-    IsSaidUpTo before now (said_of_all v l.answers).text (said_of_all v (drop l.answer-index l.answers)).text
+    IsSaidUpTo before now (said_of_all v l.answers).text
+    (said_of_all v (drop l.answer-index l.answers)).text

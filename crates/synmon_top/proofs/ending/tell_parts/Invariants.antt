@@ -8,6 +8,7 @@ abbrev pub invariant-loop-part : goal.invariant-loop-part
 invariant-loop-part g l =
     let written = g.E.Sink.written in
     record {
-      told : Appends (written l.fn.errs) (written l.errs) (concat (map (λ part. part.now) (take l.part-index l.parts)));
+      told : Appends (written l.fn.errs) (written l.errs)
+          (concat (map (λ part. part.now) (take l.part-index l.parts)));
       count : g.E.Sink.faults l.fn.errs ≤ g.E.Sink.faults l.errs;
     }

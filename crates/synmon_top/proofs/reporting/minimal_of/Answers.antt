@@ -10,12 +10,15 @@ pub returns-clause-minimal : goal.returns-clause-minimal
 returns-clause-minimal c =
     IfOk-weaker c.minimal.result
     (λ dfa. IsMinimal c.in_ok-nfa.nfa.letters (Accepts c.in_ok-nfa.nfa) dfa)
-    (λ dfa. IsMinimal (length c.args.source.now.alphabet) (language_of (source_text c.args.source.now)) dfa)
-    (λ dfa is. minimal_of_source (source_text c.args.source.now) c.in_ok-nfa.nfa dfa c.requires.sound c.in_ok-nfa.ensures.automaton c.in_ok-nfa.ensures.language is)
+    (λ dfa. IsMinimal (length c.args.source.now.alphabet)
+    (language_of (source_text c.args.source.now)) dfa)
+    (λ dfa is. minimal_of_source (source_text c.args.source.now) c.in_ok-nfa.nfa dfa
+    c.requires.sound c.in_ok-nfa.ensures.automaton c.in_ok-nfa.ensures.language is)
     c.minimal.ensures.minimal
 
 pub returns-clause-few : goal.returns-clause-few
 returns-clause-few c =
     on_ok_so c.minimal.result
-    (few_of_source (source_text c.args.source.now) c.in_ok-nfa.nfa c.args.max_subsets c.requires.sound c.in_ok-nfa.ensures.automaton)
+    (few_of_source (source_text c.args.source.now) c.in_ok-nfa.nfa c.args.max_subsets
+    c.requires.sound c.in_ok-nfa.ensures.automaton)
     c.minimal.ensures.few

@@ -6,4 +6,5 @@ use Rattle.synmon_top.proofs.reporting.print.Goals as goal
 pub returns-in_err-flush-clause-cut : goal.returns-in_err-flush-clause-cut
 returns-in_err-flush-clause-cut g c =
     on_err _
-    (prefix_given (ap (λ (h : Pending). h.bytes) c.in_ok-buffer.ensures) c.in_ok-say_answers.ensures.said c.in_err-flush.ensures.says.cut)
+    (prefix_given (ap (λ (h : Pending). h.bytes) c.in_ok-buffer.ensures)
+    c.in_ok-say_answers.ensures.said c.in_err-flush.ensures.says.cut)
