@@ -69,8 +69,8 @@ impl Buffer {
     /// The number of bytes that are not yet written.
     pub fn held(&self) -> u32
         ensures held { result ≡ length self.now.bytes }
-        ensures most { result ≤ 65536 }
-        ensures room { self.now.broken ≡ false → result < 65536 }
+        ensures most { result ≤ ROOM }
+        ensures room { self.now.broken ≡ false → result < ROOM }
     {
         self.bytes.len() as u32
     }

@@ -2,11 +2,15 @@
 use Rattle.std.specs.Prelude.{ℕ, ◌≤◌, ◌++◌, [], ◌∷◌, true, false, replicate, slice_set, if◌then◌else◌}
 use Rattle.language_theory.specs.Automaton.{Automaton, IsAutomaton, has_step}
 
--- an automaton with 1 to 4,001 states and 1 to 60 letters
+-- the most states that an automaton of the program may have: one more than an expression has nodes
+abbrev pub most_states : ℕ
+most_states = 4001
+
+-- an automaton with 1 to `most_states` states and 1 to 60 letters
 pub record IsSized (m : Automaton) : Type 0 where
   pub automaton : IsAutomaton m
   pub some_states : 1 ≤ m.states
-  pub few_states : m.states ≤ 4001
+  pub few_states : m.states ≤ most_states
   pub some_letters : 1 ≤ m.letters
   pub few_letters : m.letters ≤ 60
 

@@ -1,7 +1,7 @@
 //! Automata with any number of initial states, and of steps from one state by one letter.
 ghost use Rattle.std.specs.Prelude.{◌≡◌, ◌<◌, ◌≤◌, ◌↔◌, ◌||◌, ℕ, length, slice_get, Some, IsTrue, IfOk, OnOk, OnErr};
 ghost use Rattle.language_theory.specs.Automaton.{Automaton, IsAutomaton, has_step, is_step, is_initial, is_final};
-ghost use Rattle.syn_words.specs.Nfa.{IsSized, bare, with_initial, with_final, with_step};
+ghost use Rattle.syn_words.specs.Nfa.{most_states, IsSized, bare, with_initial, with_final, with_step};
 
 use crate::Memory;
 use indexmap::IndexSet;
@@ -38,7 +38,7 @@ impl Nfa {
     /// An automaton with no initial states, final states or steps. Condition: 1 to 4,001 states and 1 to 60 letters.
     pub fn new(alloc: Global, states: u32, letters: u32) -> Result<Nfa, Memory>
         requires some_states { 1 ≤ states }
-        requires few_states { states ≤ 4001 }
+        requires few_states { states ≤ most_states }
         requires some_letters { 1 ≤ letters }
         requires few_letters { letters ≤ 60 }
         ensures bare { IfOk result (λ m. m ≡ bare states letters) }

@@ -16,7 +16,7 @@ use automaton_file::{FileFault, Source, body_nfa, read_file};
 use command_line::Request;
 use report_text::{Buffer, SayFault, flush};
 use std::alloc::Global;
-use subset_minimal::{MinDfa, MinFault, minimal};
+use subset_minimal::{MOST_SUBSETS, MinDfa, MinFault, minimal};
 use syn_outside::Sink;
 
 /// Writes what a request asks for about the source that the bytes spell. Condition: its numbers are in the ranges of their
@@ -56,7 +56,7 @@ pub(crate) fn report<O: Sink>(alloc: Global, bytes: &[u8], request: &Request, ou
 
 /// The minimal automaton of a source's language.
 fn minimal_of(alloc: Global, source: &Source, max_subsets: u32) -> Result<MinDfa, MinFault>
-    requires subsets { max_subsets ≤ 4096 }
+    requires subsets { max_subsets ≤ MOST_SUBSETS }
     requires sound { IsSoundSource (source_text source.now) }
     requires buildable { CanBuild (length source.now.alphabet) (body_text source.now.body) }
     ensures minimal { IfOk result (λ dfa. IsMinimal (length source.now.alphabet)
