@@ -10,8 +10,10 @@ use Rattle.std.proofs.lemmas.Grind.{common_steps, get_or-set_at}
 use Rattle.std.proofs.lemmas.List.Elements.{Contains-append_left, Contains-append_right, Contains-append_cases}
 use Rattle.language_theory.proofs.Numbers.{equal_or_not}
 use Rattle.language_theory.specs.Automaton.{Automaton, IsAutomaton, is_marked, is_step, has_step, targets_of, Leads, IsReached, SameSubset, Accepts}
+use Rattle.language_theory.specs.Congruence.{moved}
+use Rattle.language_theory.proofs.Congruences.{moved_append}
 use Rattle.language_theory.proofs.Automata.{accepts_reached, reached_within, target_listed}
-use Rattle.subset_minimal.specs.Subsets.{comes_from, successor, set_from, set_of, AreAdded, HasFinal}
+use Rattle.subset_minimal.specs.Subsets.{comes_from, successor, set_of, AreAdded, HasFinal}
 
 -- ---- one letter
 
@@ -64,35 +66,30 @@ successor_marks m marks a q good hq = (to, from)
 
 -- ---- words
 
-pub set_from_long : (m : Automaton) (marks : List Bool) (w : List ℕ) → length marks ≡ m.states
-    → length (set_from m marks w) ≡ m.states
-set_from_long m marks [] h = h
-set_from_long m marks (a ∷ w) h = set_from_long m (successor m marks a) w (successor_long m marks a)
-
-set_from_last : (m : Automaton) (marks : List Bool) (w : List ℕ) (a : ℕ)
-    → set_from m marks (w ++ a ∷ []) ≡ successor m (set_from m marks w) a
-set_from_last m marks [] a = refl
-set_from_last m marks (b ∷ w) a = set_from_last m (successor m marks b) w a
+pub moved_long : (m : Automaton) (marks : List Bool) (w : List ℕ) → length marks ≡ m.states
+    → length (moved (successor m) marks w) ≡ m.states
+moved_long m marks [] h = h
+moved_long m marks (a ∷ w) h = moved_long m (successor m marks a) w (successor_long m marks a)
 
 pub set_of_last : (m : Automaton) (w : List ℕ) (a : ℕ)
     → set_of m (w ++ a ∷ []) ≡ successor m (set_of m w) a
-set_of_last m w a = set_from_last m m.initial w a
+set_of_last m w a = moved_append (successor m) m.initial w (a ∷ [])
 
 -- the marks are those of the states to which the word leads from marked states
-set_from_marks : (m : Automaton) (marks : List Bool) (w : List ℕ) (r : ℕ) → IsAutomaton m
-    → r < m.states → IsTrue (is_marked (set_from m marks w) r)
+moved_marks : (m : Automaton) (marks : List Bool) (w : List ℕ) (r : ℕ) → IsAutomaton m
+    → r < m.states → IsTrue (is_marked (moved (successor m) marks w) r)
     ↔ ((p : ℕ) × (p < m.states) × IsTrue (is_marked marks p) × Leads m p w r)
-set_from_marks m marks [] r good hr = (
+moved_marks m marks [] r good hr = (
   λ h. (r, hr, h, refl),
   λ x. let (p, hp, marked, e) =
       x in subst (λ q. IsTrue (is_marked marks q)) e marked,
 )
-set_from_marks m marks (a ∷ w) r good hr = let rest =
-    set_from_marks m (successor m marks a) w r good hr in (to rest.0, from rest.1)
+moved_marks m marks (a ∷ w) r good hr = let rest =
+    moved_marks m (successor m marks a) w r good hr in (to rest.0, from rest.1)
   where
-    to : (IsTrue (is_marked (set_from m (successor m marks a) w) r)
+    to : (IsTrue (is_marked (moved (successor m) (successor m marks a) w) r)
         → (q : ℕ) × (q < m.states) × IsTrue (is_marked (successor m marks a) q) × Leads m q w r)
-        → IsTrue (is_marked (set_from m (successor m marks a) w) r)
+        → IsTrue (is_marked (moved (successor m) (successor m marks a) w) r)
         → (p : ℕ) × (p < m.states) × IsTrue (is_marked marks p) × Leads m p (a ∷ w) r
     to rest h =
         let (q, hq, next, leads) = rest h in
@@ -100,23 +97,23 @@ set_from_marks m marks (a ∷ w) r good hr = let rest =
         (p, hp, marked, (q, (hq, step), leads))
 
     from : ((q : ℕ) × (q < m.states) × IsTrue (is_marked (successor m marks a) q) × Leads m q w r
-        → IsTrue (is_marked (set_from m (successor m marks a) w) r))
+        → IsTrue (is_marked (moved (successor m) (successor m marks a) w) r))
         → (p : ℕ) × (p < m.states) × IsTrue (is_marked marks p) × Leads m p (a ∷ w) r
-        → IsTrue (is_marked (set_from m (successor m marks a) w) r)
+        → IsTrue (is_marked (moved (successor m) (successor m marks a) w) r)
     from rest (p, hp, marked, (q, (hq, step), leads)) =
         rest (q, hq, (successor_marks m marks a q good hq).1 (p, hp, marked, step), leads)
 
 pub set_of_long : (m : Automaton) (w : List ℕ) → IsAutomaton m → length (set_of m w) ≡ m.states
-set_of_long m w good = set_from_long m m.initial w good.initial
+set_of_long m w good = moved_long m m.initial w good.initial
 
 -- the set of a word has the states that the word reaches
 pub set_of_marks : (m : Automaton) (w : List ℕ) (r : ℕ) → IsAutomaton m → r < m.states
     → IsTrue (is_marked (set_of m w) r) ↔ IsReached m w r
 set_of_marks m w r good hr = (
   λ h. let (p, hp, marked, leads) =
-      (set_from_marks m m.initial w r good hr).0 h in (p, (hp, marked), leads),
+      (moved_marks m m.initial w r good hr).0 h in (p, (hp, marked), leads),
   λ x. let (p, (hp, marked), leads) =
-      x in (set_from_marks m m.initial w r good hr).1 (p, hp, marked, leads),
+      x in (moved_marks m m.initial w r good hr).1 (p, hp, marked, leads),
 )
 
 -- words reach the same states exactly where their sets are equal
