@@ -1,5 +1,7 @@
 //! Whole files and whole pieces over devices in memory and of the system.
-use crate::{Files, Got, MemFiles, MemSink, Opened, ReadFault, RealFiles, RealSink, put_all, read_all};
+use crate::{
+    Files, Got, MemFiles, MemSink, Opened, ReadFault, RealFiles, RealSink, put_all, read_all,
+};
 use std::fs;
 use std::io::{self, ErrorKind, Write};
 use std::test::Fail;
