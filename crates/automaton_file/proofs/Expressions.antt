@@ -79,7 +79,3 @@ fault_raised cs (expr.Unexpected at) raised h same = subst (IsLineFault (unless 
 fault_raised cs (expr.UnknownLetter at) raised h same = subst (IsLineFault (unless (is_accepted cs) wrong.Expression)) (sym same) (ap (λ (b : Bool). unless b wrong.Expression) (fault_test cs _ at h))
 fault_raised cs (expr.TooDeep at) raised h same = subst (IsLineFault (unless (is_accepted cs) wrong.Expression)) (sym same) (ap (λ (b : Bool). unless b wrong.Expression) (fault_test cs _ at h))
 fault_raised cs (expr.TooLarge at) raised h same = subst (IsLineFault (unless (is_accepted cs) wrong.Expression)) (sym same) (ap (λ (b : Bool). unless b wrong.Expression) (fault_test cs _ at h))
-
--- what a body line with `expr` begins, where its text spells an expression
-pub expression_begun : (letters line more : List ℕ) (tree : Tree) → is_expr (fields line) ≡ true → more ≡ behind_first line → is_expression letters more ≡ true → SpellsTree (classes letters more) tree → (body_fault letters line ≡ None) × (is_expr (fields line) ≡ true) × SpellsTree (classes letters (behind_first line)) tree
-expression_begun letters line more tree e same passes spells = (expression_tested letters line more true e (sym same) passes, e, subst (λ (text : List ℕ). SpellsTree (classes letters text) tree) same spells)

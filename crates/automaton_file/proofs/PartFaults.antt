@@ -49,9 +49,6 @@ taken cursor part p = record {
   parts = part_parts cursor part p;
 }
 
-pub no_part_refused : (fault : List ℕ → Option Wrong) (cursor : Cursor) (bad : BadLine) → IsNoPart cursor bad → IsRefusedPart fault cursor bad
-no_part_refused fault cursor bad h = record { first = λ test whole earlier hw ht. h.first test whole earlier hw }
-
 pub part_refused : (fault : List ℕ → Option Wrong) (cursor : Cursor) (part : Part) (w : Wrong) → IsPart cursor part → fault part.text.now ≡ Some w → IsRefusedPart fault cursor (record { line = part.number; wrong = w })
 part_refused fault cursor part w p found = record { first = λ test whole earlier hw ht. fault_found cursor part p test whole earlier w (ht part.text.now ∙ found) }
 
@@ -108,19 +105,6 @@ head_faults bytes head count h e =
     ∙ ap (λ (letters : List ℕ). automaton_first_fault letters (state_count (fields h.body)) [] head.next.number (lines_from head.next)) (sym h.letters)
     ∙ ap (λ (n : ℕ). automaton_first_fault head.alphabet n [] head.next.number (lines_from head.next)) begins.1
 
--- the lines behind the body line spell the automaton
-pub head_automaton : (bytes : List ℕ) (head : Head) (count : ℕ) (m : Automaton) → IsHead bytes head → head.body ≡ Nfa count → m ≡ automaton_of head.alphabet (bare count (length head.alphabet)) (parts (lines_from head.next)) → ReadsSource (parts (text_lines bytes)) (record { letters = head.alphabet; body = OfAutomaton m })
-head_automaton bytes head count m h e same =
-    let begins : (is_expr (fields h.body) ≡ false) × (state_count (fields h.body) ≡ count) × (1 ≤ count) × (count ≤ 1000) = subst (IsBodyLine head.alphabet h.body) e h.begins in
-    subst (λ (ps : Lines). ReadsSource ps (record { letters = head.alphabet; body = OfAutomaton m })) (sym h.parts) (
-      h.letters,
-      (
-        begins.0,
-        same ∙ ap (λ (letters : List ℕ). automaton_of letters (bare count (length letters)) (parts (lines_from head.next))) h.letters
-            ∙ ap (λ (n : ℕ). automaton_of (letters_in h.alphabet) (bare n (length (letters_in h.alphabet))) (parts (lines_from head.next))) (sym begins.1),
-      ),
-    )
-
 pub steps_at_end : (letters : List ℕ) (count : ℕ) (cursor : Cursor) (end : ℕ) → IsEndAhead cursor.bytes.now cursor.at cursor.number end → steps_first_fault letters count cursor.number (lines_from cursor) ≡ None
 steps_at_end letters count cursor end h = faults_at_end (λ _ line. step_fault letters count (fields line)) (λ _. true) [] cursor end h refl
 
@@ -129,12 +113,6 @@ pub head_nothing : (bytes : List ℕ) (head : Head) (expr : reader.Expr) → IsH
 head_nothing bytes head expr h e =
     let begins = subst (IsBodyLine head.alphabet h.body) e h.begins in
     h.faults ∙ faults_of_expression h.header h.alphabet h.body head.next.number (lines_from head.next) begins.0
-
-pub head_expression : (bytes : List ℕ) (head : Head) (expr : reader.Expr) → IsHead bytes head → head.body ≡ Expr expr → ReadsSource (parts (text_lines bytes)) (record { letters = head.alphabet; body = OfExpression (tree_of expr) })
-head_expression bytes head expr h e =
-    let begins = subst (IsBodyLine head.alphabet h.body) e h.begins in
-    subst (λ (ps : Lines). ReadsSource ps (record { letters = head.alphabet; body = OfExpression (tree_of expr) })) (sym h.parts)
-    (h.letters, (begins.0, subst (λ (letters : List ℕ). SpellsTree (classes letters (behind_first h.body)) (tree_of expr)) h.letters begins.1))
 
 -- a significant line where none may stand
 pub part_behind_expression : (cursor : Cursor) (part : Part) → IsPart cursor part → nothing_first_fault cursor.number (lines_from cursor) ≡ Some (part.number, wrong.OutOfPlace)

@@ -28,10 +28,6 @@ pub automaton_tested : (letters line : List ℕ) → is_expr (fields line) ≡ f
 automaton_tested letters line expr nfa true is = rw (expr, nfa, is) refl
 automaton_tested letters line expr nfa false is = rw (expr, nfa, is) refl
 
--- the test of a body line with another word
-pub other_tested : (letters line : List ℕ) → is_expr (fields line) ≡ false → begins_with (codes "nfa") (fields line) ≡ false → body_fault letters line ≡ Some wrong.Body
-other_tested letters line expr nfa = rw (expr, nfa) refl
-
 pub body_of_count : (letters line : List ℕ) (more : Fields) (word : List ℕ) (n : ℕ) → fields line ≡ word ∷ more → bytes_eq word (codes "expr") ≡ false → bytes_eq word (codes "nfa") ≡ true → n ≡ count_of more → n ≢ 0 → (body_fault letters line ≡ None) × ((is_expr (fields line) ≡ false) × (state_count (fields line) ≡ n) × (1 ≤ n) × (n ≤ 1000))
 body_of_count letters line more word n e other is_nfa same some =
     let is : (state_count (fields line) == 0) ≡ false = ne_eqb _ 0 (λ z. some (same ∙ ap state_count (sym e) ∙ z)) in

@@ -7,9 +7,6 @@ use Rattle.std.proofs.lemmas.List.{drop-drop, drop_all}
 use Rattle.automaton_file.specs.LineText.{text_lines, line_len, line_start, is_plain, is_significant, fields, is_skipped, IsSkip}
 use Rattle.automaton_file.proofs.TextLines.{text_lines_none}
 
-pub skip_none : (texts : List (List ℕ)) (number : ℕ) → IsSkip texts number texts number
-skip_none texts number = record { skipped = []; split = refl; counted = omega arith; each = refl }
-
 all_push : (texts : List (List ℕ)) (text : List ℕ) → list_all is_skipped texts ≡ true → is_skipped text ≡ true → list_all is_skipped (texts ++ text ∷ []) ≡ true
 all_push [] text h k = rw k
 all_push (t ∷ texts) text h k = let both = and_parts (is_skipped t) (list_all is_skipped texts) h in and_from (is_skipped t) (list_all is_skipped (texts ++ text ∷ [])) both.0 (all_push texts text both.1 k)
@@ -44,6 +41,3 @@ pub line_start_next : (bytes rest : List ℕ) (place number from at w : ℕ) →
 line_start_next bytes rest place number from at w back same begins risen =
     let next : suc (at - number) ≡ at + 1 - number = omega arith in
     ap (λ (x : ℕ). from + x) (same ∙ ap line_len back) ∙ ap (λ (x : ℕ). x + line_len (drop x bytes)) begins ∙ ap (line_start bytes place) next
-
-pub line_start_first : (bytes : List ℕ) (place number : ℕ) → place ≡ line_start bytes place (number - number)
-line_start_first bytes place number = let none : zero ≡ number - number = omega arith in ap (line_start bytes place) none
