@@ -7,7 +7,7 @@ use Rattle.automaton_file.specs.declared.sources.Wrong.{Wrong}
 use Rattle.automaton_file.specs.declared.sources.Wrong.TheVariants as wrong
 use Rattle.automaton_file.specs.LineText.{text_lines, fields, parts, behind_first, IsBadAhead, IsEndAhead}
 use Rattle.automaton_file.specs.FileText.{step_fault, marks_fault, automaton_fault, is_expr, state_count, letters_in, OfAutomaton, OfExpression}
-use Rattle.automaton_file.specs.Parts.{Lines}
+use Rattle.automaton_file.specs.Parts.{Lines, most_states}
 use Rattle.automaton_file.specs.Reading.{with_line, with_step_line, with_step_lines, automaton_of, ReadsSource, IsPart, IsTaken, IsNoPart, IsBadPart, IsRefusedPart, IsFaultAt, IsReadFault, lines_from, fault_else, faults_by, first_fault, automaton_first_fault, steps_first_fault, nothing_first_fault, IsMarksTaken, IsBodyLine, IsHead}
 use Rattle.expression_theory.specs.Scan.{classes, SpellsTree}
 use Rattle.regex_reader.specs.declared.expr.Expr as reader
@@ -100,7 +100,7 @@ marks_then_step_lines letters cursor next last m m' m'' h k =
 -- the first three parts are read, and the body is an automaton
 pub head_faults : (bytes : List ℕ) (head : Head) (count : ℕ) → IsHead bytes head → head.body ≡ Nfa count → first_fault [] 1 (text_lines bytes) ≡ automaton_first_fault head.alphabet count [] head.next.number (lines_from head.next)
 head_faults bytes head count h e =
-    let begins : (is_expr (fields h.body) ≡ false) × (state_count (fields h.body) ≡ count) × (1 ≤ count) × (count ≤ 1000) = subst (IsBodyLine head.alphabet h.body) e h.begins in
+    let begins : (is_expr (fields h.body) ≡ false) × (state_count (fields h.body) ≡ count) × (1 ≤ count) × (count ≤ most_states) = subst (IsBodyLine head.alphabet h.body) e h.begins in
     h.faults ∙ faults_of_automaton h.header h.alphabet h.body head.next.number (lines_from head.next) begins.0
     ∙ ap (λ (letters : List ℕ). automaton_first_fault letters (state_count (fields h.body)) [] head.next.number (lines_from head.next)) (sym h.letters)
     ∙ ap (λ (n : ℕ). automaton_first_fault head.alphabet n [] head.next.number (lines_from head.next)) begins.1

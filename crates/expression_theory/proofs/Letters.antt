@@ -7,7 +7,7 @@ use Rattle.std.proofs.lemmas.Bool.Decides.{Decides-ltb}
 use Rattle.expression_theory.specs.Expression.{Tree}
 use Rattle.expression_theory.specs.Positions.{signs}
 use Rattle.expression_theory.specs.Grammar.{Leaf, NoWord, EmptyWord, Symbol, leaf_tree, Quantifier, AnyTimes, OnceOrMore, AtMostOnce, applied, Sign, Operand, Bar, Postfix, Open, Close, Level, Atom, Piece, Sequence, Union, Spells, operand, inside, atom, postfix, one_piece, next_piece, one_sequence, next_sequence}
-use Rattle.expression_theory.specs.Scan.{Class, Skipped, Unknown, Good, signs_in, letter_class, sign_class, class_of, classes}
+use Rattle.expression_theory.specs.Scan.{Class, Skipped, Unknown, Good, signs_in, letter_class, sign_class, class_of, classes, is_lower_case}
 use Rattle.expression_theory.proofs.Reading.{signs_append}
 
 -- a search that finds the letter, or does not
@@ -102,7 +102,7 @@ class_letters : (letters : List ℕ) (byte : ℕ) → All (λ a. a < length lett
 class_letters letters byte =
     let place = position_or_len (λ a. a == byte) letters in
     let none = All-nil (λ a. a < length letters) in
-    either_class (All (λ a. a < length letters)) (nat_le 97 byte && nat_le byte 122) (letter_class letters byte) (sign_class byte)
+    either_class (All (λ a. a < length letters)) (is_lower_case byte) (letter_class letters byte) (sign_class byte)
     (λ e. either_class (All (λ a. a < length letters)) (nat_lt place (length letters)) (Good (Operand (Symbol place))) Unknown
     (λ f. All-cons (λ a. a < length letters) place [] ((Decides-ltb place (length letters)).0 f) none) none)
     (subst (All (λ a. a < length letters)) (sym (sign_letters byte)) none)

@@ -2,7 +2,7 @@
 -- the left.
 use Rattle.std.specs.Prelude.{◌≡◌, ℕ, zero, suc, ◌+◌, ◌-◌, ◌<◌, ◌≤◌, IsTrue, ◌↔◌, List, [], ◌∷◌, ◌++◌, length, slice_index, All}
 use Rattle.language_theory.specs.Automaton.{Automaton, is_initial, is_final, has_step}
-use Rattle.expression_theory.specs.Expression.{Tree, Zero, One, Letter, Or, Cat, Star, Plus, Opt, Means, nodes}
+use Rattle.expression_theory.specs.Expression.{Tree, Zero, One, Letter, Or, Cat, Star, Plus, Opt, Means, nodes, most_nodes}
 
 -- the letters of the signs, from the left
 abbrev pub signs : Tree → List ℕ
@@ -66,7 +66,7 @@ pub record IsPositions (t : Tree) (k : ℕ) (m : Automaton) : Type 0 where
   pub final : (p : ℕ) → IsTrue (is_final m p) ↔ IsFinalPosition t p
   pub step : (p a q : ℕ) → IsTrue (has_step m p a q) ↔ (StepsTo t p q × (letter_of t q ≡ a))
 
--- the expressions that have a position automaton here: at most 4,000 nodes, and letters below k
+-- the expressions that have a position automaton here: not too many nodes, and letters below k
 pub record IsWithin (k : ℕ) (t : Tree) : Type 0 where
-  pub small : nodes t ≤ 4000
+  pub small : nodes t ≤ most_nodes
   pub letters : All (λ a. a < k) (signs t)

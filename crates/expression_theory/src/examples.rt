@@ -1,11 +1,11 @@
 //! Worked examples over the letters a = 0 and b = 1, in the alphabet that is written `ab`.
 
-ghost use Rattle.std.specs.Prelude.{◌≡◌, ◌↔◌, ◌⊎◌, ℕ, true, List, [], ◌∷◌, codes, replicate};
+ghost use Rattle.std.specs.Prelude.{◌≡◌, ◌↔◌, ◌⊎◌, ◌+◌, ℕ, true, List, [], ◌∷◌, codes, replicate};
 ghost use Rattle.language_theory.specs.Examples.{IsAbStar};
-ghost use Rattle.expression_theory.specs.Expression.{Tree, Zero, One, Letter, Or, Cat, Star, Plus, Opt, Means, nodes};
+ghost use Rattle.expression_theory.specs.Expression.{Tree, Zero, One, Letter, Or, Cat, Star, Plus, Opt, Means, nodes, most_nodes};
 ghost use Rattle.expression_theory.specs.Positions.{SignWord, Begins, Follows, Ends, numbered, IsPositions};
 ghost use Rattle.expression_theory.specs.FirstLast.{firsts, lasts, follows};
-ghost use Rattle.expression_theory.specs.Scan.{classes, nodes_from, Unexpected, UnknownLetter, TooDeep, TooLarge, IsAccepted, IsFault, SpellsTree};
+ghost use Rattle.expression_theory.specs.Scan.{classes, nodes_from, most_open, Unexpected, UnknownLetter, TooDeep, TooLarge, IsAccepted, IsFault, SpellsTree};
 ghost use Rattle.expression_theory.specs.Examples.{ab_star_positions};
 
 /// The text `(ab)*` spells the star of a concatenation, and is accepted.
@@ -55,8 +55,9 @@ pub fn texts_have_their_first_fault()
 
 /// 200 open parentheses and 4,000 nodes are allowed, and one more is not.
 pub fn limits_are_exact()
-    ensures depth { IsFault (classes (codes "ab") (replicate 201 40)) TooDeep 200 }
-    ensures size { IsFault (classes (codes "ab") (97 ∷ replicate 4000 42)) TooLarge 4000 }
+    ensures depth { IsFault (classes (codes "ab") (replicate (most_open + 1) 40)) TooDeep most_open }
+    ensures size { IsFault (classes (codes "ab") (97 ∷ replicate most_nodes 42)) TooLarge
+        most_nodes }
 {}
 
 /// The words of (ab)*, a+, a? and 0.

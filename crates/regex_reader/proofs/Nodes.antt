@@ -8,7 +8,7 @@ use Rattle.expression_theory.proofs.Polish.{trees_of_polish, letters_append, not
 use Rattle.regex_reader.specs.declared.parts.Part.{Part}
 use Rattle.regex_reader.specs.declared.polish.Node.{Node}
 use Rattle.regex_reader.specs.declared.polish.Node.TheVariants as node
-use Rattle.regex_reader.specs.Marks.{Table}
+use Rattle.regex_reader.specs.Marks.{Table, widest}
 use Rattle.regex_reader.specs.Notations.{node_of}
 use Rattle.regex_reader.specs.Parts.{IsPart, AreParts, IsEvaluated, HasCombined, CanRead}
 use Rattle.regex_reader.proofs.Combining.{read_on, sign_left, count_parts}
@@ -36,7 +36,7 @@ drop_one (suc i) [] = let e : suc (i + 1) ≡ suc i + 1 = omega arith in ap (λ 
 drop_one (suc i) (n ∷ ns) = let e : suc (i + 1) ≡ suc i + 1 = omega arith in drop_one i ns ∙ ap (λ k. drop k (n ∷ ns)) e
 
 -- the node at the place i can be read where those behind it have been
-pub can_read : (ns : List notation.Node) (i n : ℕ) (xs : List Part) (m : Table) → IsNotation ns → m.width ≡ length (letters ns) + 1 → m.width ≤ 4001 → i < length ns →
+pub can_read : (ns : List notation.Node) (i n : ℕ) (xs : List Part) (m : Table) → IsNotation ns → m.width ≡ length (letters ns) + 1 → m.width ≤ widest → i < length ns →
     IsEvaluated (trees (drop (i + 1) ns)) n xs m → CanRead (drop i ns) n xs m
 can_read ns i n xs m h w k b e =
     let l : length (drop i ns) ≡ length ns - i = length-drop i ns in

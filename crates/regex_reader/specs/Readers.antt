@@ -8,6 +8,7 @@ use Rattle.regex_reader.specs.declared.fault.ExprFault.{ExprFault}
 use Rattle.regex_reader.specs.declared.fault.ExprFault.TheVariants as fault
 use Rattle.regex_reader.specs.declared.frames.Frame.{Frame}
 use Rattle.regex_reader.specs.declared.reader.Reader.{Reader}
+use Rattle.expression_theory.specs.Expression.{most_nodes}
 
 -- an operand must come where there is no last piece
 abbrev pub is_due : Option Expr → Bool
@@ -45,8 +46,8 @@ pub record HasRead (r : Reader) (c : scan.Class) (next : Reader) : Type 0 where
 
 -- what is known between two bytes
 pub record IsReader (r : Reader) : Type 0 where
-  pub depth : length r.waiting.items ≤ 200
-  pub nodes : r.nodes ≤ 4000
+  pub depth : length r.waiting.items ≤ scan.most_open
+  pub nodes : r.nodes ≤ most_nodes
 
 -- the fault of a text: that of its first failing test
 abbrev pub IsFirstFault : List scan.Class → ExprFault → Type 0

@@ -13,10 +13,10 @@ use crate::{Expr, ExprFault};
 use std::alloc::Global;
 
 /// At most so many parentheses are open.
-const DEPTH: usize = 200;
+const MOST_OPEN: usize = 200;
 
 /// A tree has at most so many nodes.
-const NODES: u32 = 4000;
+const MOST_NODES: u32 = 4000;
 
 /// What was read up to a byte.
 #[derive(Drop)]
@@ -60,7 +60,7 @@ fn within_nodes(nodes: u32, at: u64) -> Result<u32, ExprFault>
     ensures { MatchResult result (λ n. (n ≡ nodes)
         × (scan.size_test nodes ≡ None)) (λ f. IsFaultAt (scan.size_test nodes) at f) }
 {
-    if nodes > NODES {
+    if nodes > MOST_NODES {
         return Err(ExprFault::TooLarge { at });
     }
     Ok(nodes)
@@ -94,7 +94,7 @@ fn read_open(alloc: Global, reader: Reader, at: u64) -> Result<Reader, ExprFault
     ensures { MatchResult result (HasRead reader (scan.Good grammar.Open))
         (IsFaultAt (failing_here reader (scan.Good grammar.Open)) at) }
 {
-    if reader.waiting.len() >= DEPTH {
+    if reader.waiting.len() >= MOST_OPEN {
         return Err(ExprFault::TooDeep { at });
     }
     let cost = if reader.piece.is_none() { 0 } else { 1 };

@@ -5,6 +5,7 @@ use Rattle.regex_reader.specs.Notations.{node_of}
 use Rattle.regex_reader.specs.Parts.{IsEvaluated, CanRead}
 use Rattle.regex_reader.proofs.Nodes.{can_read, all_read}
 use Rattle.regex_reader.proofs.evaluation.read_all.Goals as goal
+use Rattle.regex_reader.specs.Marks.{widest}
 
 pub read_first-requires : goal.read_first-requires
 read_first-requires c =
@@ -16,7 +17,7 @@ read_first-requires c =
     let w = c.loop-place.invariant.width in
     let width : c.loop-place.marks.width ≡ length (notation.letters ns) + 1 = w ∙ c.requires.room in
     let can : CanRead (drop i ns) c.loop-place.sign c.loop-place.parts.items c.loop-place.marks =
-    can_read ns i c.loop-place.sign c.loop-place.parts.items c.loop-place.marks c.requires.notation width (subst (λ k. k ≤ 4001) (sym w) c.requires.narrow)
+    can_read ns i c.loop-place.sign c.loop-place.parts.items c.loop-place.marks c.requires.notation width (subst (λ k. k ≤ widest) (sym w) c.requires.narrow)
     (omega (arith, length-map c.args.nodes.now node_of))
     (subst (λ k. IsEvaluated (notation.trees (drop k ns)) c.loop-place.sign c.loop-place.parts.items c.loop-place.marks) e c.loop-place.invariant.evaluated) in
     let rest : c.split_at.result.1.now ≡ drop i c.args.nodes.now = search rules in
