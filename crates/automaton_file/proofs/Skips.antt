@@ -24,7 +24,7 @@ skip_same texts rest other number at s e = subst (λ (r : List (List ℕ)). IsSk
 
 -- the first line of what stands from a place on
 pub line_ahead : (bytes rest text : List ℕ) (from t w : ℕ) → rest ≡ drop from bytes → text ≡ take t rest → text_lines rest ≡ take t rest ∷ text_lines (drop w rest) → text_lines (drop from bytes) ≡ text ∷ text_lines (drop (from + w) bytes)
-line_ahead bytes rest text from t w back front e = rw (← drop-drop w from bytes, ← back, front) e
+line_ahead bytes rest text from t w back prefix e = rw (← drop-drop w from bytes, ← back, prefix) e
 
 -- what is skipped so far, and one line more
 pub skip_line : (bytes text : List ℕ) (place number from at w : ℕ) → IsSkip (text_lines (drop place bytes)) number (text_lines (drop from bytes)) at → text_lines (drop from bytes) ≡ text ∷ text_lines (drop (from + w) bytes) → is_plain text ≡ true → is_significant (fields text) ≡ false → IsSkip (text_lines (drop place bytes)) number (text_lines (drop (from + w) bytes)) (at + 1)

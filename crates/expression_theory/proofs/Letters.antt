@@ -5,7 +5,7 @@ use Rattle.std.proofs.lemmas.List.{append-nil}
 use Rattle.std.proofs.lemmas.List.Elements.{All-nil, All-cons, All-append}
 use Rattle.std.proofs.lemmas.Bool.Decides.{Decides-ltb}
 use Rattle.expression_theory.specs.Expression.{Tree}
-use Rattle.expression_theory.specs.Positions.{signs}
+use Rattle.expression_theory.specs.Positions.{positions}
 use Rattle.expression_theory.specs.Grammar.{Leaf, NoWord, EmptyWord, Symbol, leaf_tree, Quantifier, AnyTimes, OnceOrMore, AtMostOnce, applied, Sign, Operand, Bar, Postfix, Open, Close, Level, Atom, Piece, Sequence, Union, Spells, operand, inside, atom, postfix, one_piece, next_piece, one_sequence, next_sequence}
 use Rattle.expression_theory.specs.Scan.{Class, Skipped, Unknown, Good, signs_in, letter_class, sign_class, class_of, classes, is_lower_case}
 use Rattle.expression_theory.proofs.Reading.{signs_append}
@@ -52,28 +52,28 @@ symbols_append (Postfix m ∷ u) v = symbols_append u v
 symbols_append (Open ∷ u) v = symbols_append u v
 symbols_append (Close ∷ u) v = symbols_append u v
 
-leaf_signs : (x : Leaf) → signs (leaf_tree x) ≡ symbols (Operand x ∷ [])
-leaf_signs NoWord = refl
-leaf_signs EmptyWord = refl
-leaf_signs (Symbol a) = refl
+leaf_positions : (x : Leaf) → positions (leaf_tree x) ≡ symbols (Operand x ∷ [])
+leaf_positions NoWord = refl
+leaf_positions EmptyWord = refl
+leaf_positions (Symbol a) = refl
 
-applied_signs : (m : Quantifier) (t : Tree) → signs (applied m t) ≡ signs t
-applied_signs AnyTimes t = refl
-applied_signs OnceOrMore t = refl
-applied_signs AtMostOnce t = refl
+applied_positions : (m : Quantifier) (t : Tree) → positions (applied m t) ≡ positions t
+applied_positions AnyTimes t = refl
+applied_positions OnceOrMore t = refl
+applied_positions AtMostOnce t = refl
 
-letters_spelt : (l : Level) (w : List Sign) (t : Tree) → Spells l w t → signs t ≡ symbols w
-letters_spelt l w t (operand {x = x}) = leaf_signs x
+letters_spelt : (l : Level) (w : List Sign) (t : Tree) → Spells l w t → positions t ≡ symbols w
+letters_spelt l w t (operand {x = x}) = leaf_positions x
 letters_spelt l w t (inside {w = v} {t = x} h) = letters_spelt Union v x h ∙ sym (append-nil (symbols v)) ∙ sym (symbols_append v (Close ∷ []))
 letters_spelt l w t (atom {w = v} {t = x} h) = letters_spelt Atom v x h
 letters_spelt l w t (postfix {w = v} {t = x} m h) =
-    applied_signs m x ∙ letters_spelt Piece v x h ∙ sym (append-nil (symbols v)) ∙ sym (symbols_append v (Postfix m ∷ []))
+    applied_positions m x ∙ letters_spelt Piece v x h ∙ sym (append-nil (symbols v)) ∙ sym (symbols_append v (Postfix m ∷ []))
 letters_spelt l w t (one_piece {w = v} {t = x} h) = letters_spelt Piece v x h
 letters_spelt l w t (next_piece {u = u} {v = v} {s = x} {t = y} h k) =
-    ap (λ r. r ++ signs y) (letters_spelt Sequence u x h) ∙ ap (λ r. symbols u ++ r) (letters_spelt Piece v y k) ∙ sym (symbols_append u v)
+    ap (λ r. r ++ positions y) (letters_spelt Sequence u x h) ∙ ap (λ r. symbols u ++ r) (letters_spelt Piece v y k) ∙ sym (symbols_append u v)
 letters_spelt l w t (one_sequence {w = v} {t = x} h) = letters_spelt Sequence v x h
 letters_spelt l w t (next_sequence {u = u} {v = v} {s = x} {t = y} h k) =
-    ap (λ r. r ++ signs y) (letters_spelt Union u x h) ∙ ap (λ r. symbols u ++ r) (letters_spelt Sequence v y k) ∙ sym (symbols_append u (Bar ∷ v))
+    ap (λ r. r ++ positions y) (letters_spelt Union u x h) ∙ ap (λ r. symbols u ++ r) (letters_spelt Sequence v y k) ∙ sym (symbols_append u (Bar ∷ v))
 
 -- the letters of a class
 abbrev pub letters_in : Class → List ℕ
@@ -115,6 +115,6 @@ text_letters letters (byte ∷ text) =
     (All-append (λ a. a < length letters) (letters_in c) (symbols (signs_in (classes letters text))) (class_letters letters byte) (text_letters letters text))
 
 -- the letters of a tree that a text spells are below the number of letters
-pub spelt_letters : (letters text : List ℕ) (t : Tree) → Spells Union (signs_in (classes letters text)) t → All (λ a. a < length letters) (signs t)
+pub spelt_letters : (letters text : List ℕ) (t : Tree) → Spells Union (signs_in (classes letters text)) t → All (λ a. a < length letters) (positions t)
 spelt_letters letters text t h =
     subst (All (λ a. a < length letters)) (sym (letters_spelt Union (signs_in (classes letters text)) t h)) (text_letters letters text)

@@ -2,7 +2,7 @@
 use Rattle.std.proofs.Common.{◌≡◌, ℕ, ◌+◌, Bool, true, false, cond, List, [], ◌∷◌, ◌++◌, refl, ap, append_assoc, arith}
 use Rattle.std.proofs.Common.{length, length-append, ◌≤◌}
 use Rattle.std.proofs.lemmas.List.{append-nil}
-use Rattle.expression_theory.specs.Positions.{signs}
+use Rattle.expression_theory.specs.Positions.{positions}
 use Rattle.expression_theory.specs.Expression.{Tree, Zero, One, Letter, Or, Cat, Star, Plus, Opt, nodes}
 use Rattle.expression_theory.specs.Grammar.{Leaf, NoWord, EmptyWord, Symbol, leaf_tree, Quantifier, AnyTimes, OnceOrMore, AtMostOnce, applied, Sign, Operand, Bar, Postfix, Open, Close, Level, Atom, Piece, Sequence, Union, Spells, operand, inside, atom, postfix, one_piece, next_piece, one_sequence, next_sequence}
 use Rattle.expression_theory.specs.Scan.{Class, Skipped, Unknown, Strange, Good, signs_in, due_by, cost, nodes_from}
@@ -72,13 +72,13 @@ nodes_counted cs t s =
     let g = counted_signs true cs in
     omega arith
 
--- a tree has no more signs than nodes
-pub signs_within : (t : Tree) → length (signs t) ≤ nodes t
-signs_within Zero = omega arith
-signs_within One = omega arith
-signs_within (Letter a) = omega arith
-signs_within (Or s t) = let e = signs_within s in let f = signs_within t in omega (arith, length-append (signs s) (signs t))
-signs_within (Cat s t) = let e = signs_within s in let f = signs_within t in omega (arith, length-append (signs s) (signs t))
-signs_within (Star t) = let e = signs_within t in omega arith
-signs_within (Plus t) = let e = signs_within t in omega arith
-signs_within (Opt t) = let e = signs_within t in omega arith
+-- a tree has no more positions than nodes
+pub positions_within : (t : Tree) → length (positions t) ≤ nodes t
+positions_within Zero = omega arith
+positions_within One = omega arith
+positions_within (Letter a) = omega arith
+positions_within (Or s t) = let e = positions_within s in let f = positions_within t in omega (arith, length-append (positions s) (positions t))
+positions_within (Cat s t) = let e = positions_within s in let f = positions_within t in omega (arith, length-append (positions s) (positions t))
+positions_within (Star t) = let e = positions_within t in omega arith
+positions_within (Plus t) = let e = positions_within t in omega arith
+positions_within (Opt t) = let e = positions_within t in omega arith

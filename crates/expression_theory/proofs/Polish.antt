@@ -2,8 +2,8 @@
 use Rattle.std.proofs.Common.{◌≡◌, ℕ, zero, suc, ◌+◌, ◌≤◌, List, [], ◌∷◌, ◌++◌, length, drop, refl, ap, sym, subst, ◌∙◌, append_assoc, length-append, arith}
 use Rattle.std.proofs.lemmas.List.{append-nil}
 use Rattle.expression_theory.specs.Expression.{Tree, Zero, One, Letter, Or, Cat, Star, Plus, Opt}
-use Rattle.expression_theory.specs.Positions.{signs}
-use Rattle.expression_theory.specs.Polish.{Node, NoWord, EmptyWord, Symbol, Union, Product, AnyTimes, OnceOrMore, AtMostOnce, polish, built, trees, arity, IsNotation, letters, signs_among}
+use Rattle.expression_theory.specs.Positions.{positions}
+use Rattle.expression_theory.specs.Polish.{Node, NoWord, EmptyWord, Symbol, Union, Product, AnyTimes, OnceOrMore, AtMostOnce, polish, built, trees, arity, IsNotation, letters, positions_among}
 
 -- the notation of a tree gives back the tree, whatever stands behind it
 pub trees_polish : (t : Tree) (ns : List Node) → trees (polish t ++ ns) ≡ t ∷ trees ns
@@ -68,41 +68,41 @@ letters_append (AnyTimes ∷ ms) ns = letters_append ms ns
 letters_append (OnceOrMore ∷ ms) ns = letters_append ms ns
 letters_append (AtMostOnce ∷ ms) ns = letters_append ms ns
 
--- the letters of the notation are those of the signs
-pub letters_polish : (t : Tree) → letters (polish t) ≡ signs t
+-- the letters of the notation are those of the positions
+pub letters_polish : (t : Tree) → letters (polish t) ≡ positions t
 letters_polish Zero = refl
 letters_polish One = refl
 letters_polish (Letter a) = refl
-letters_polish (Or s t) = letters_append (polish s) (polish t) ∙ ap (λ w. w ++ letters (polish t)) (letters_polish s) ∙ ap (λ w. signs s ++ w) (letters_polish t)
-letters_polish (Cat s t) = letters_append (polish s) (polish t) ∙ ap (λ w. w ++ letters (polish t)) (letters_polish s) ∙ ap (λ w. signs s ++ w) (letters_polish t)
+letters_polish (Or s t) = letters_append (polish s) (polish t) ∙ ap (λ w. w ++ letters (polish t)) (letters_polish s) ∙ ap (λ w. positions s ++ w) (letters_polish t)
+letters_polish (Cat s t) = letters_append (polish s) (polish t) ∙ ap (λ w. w ++ letters (polish t)) (letters_polish s) ∙ ap (λ w. positions s ++ w) (letters_polish t)
 letters_polish (Star t) = letters_polish t
 letters_polish (Plus t) = letters_polish t
 letters_polish (Opt t) = letters_polish t
 
--- a node takes its parts' signs with it
-signs_built : (n : Node) (ts : List Tree) → arity n ≤ length ts → signs_among (built n ts) ≡ length (letters (n ∷ [])) + signs_among ts
-signs_built NoWord ts h = refl
-signs_built EmptyWord ts h = refl
-signs_built (Symbol a) ts h = refl
-signs_built Union (s ∷ (t ∷ ts)) h = omega (arith, length-append (signs s) (signs t))
-signs_built Product (s ∷ (t ∷ ts)) h = omega (arith, length-append (signs s) (signs t))
-signs_built AnyTimes (t ∷ ts) h = omega arith
-signs_built OnceOrMore (t ∷ ts) h = omega arith
-signs_built AtMostOnce (t ∷ ts) h = omega arith
-signs_built Union [] h = absurd (omega arith)
-signs_built Union (s ∷ []) h = absurd (omega arith)
-signs_built Product [] h = absurd (omega arith)
-signs_built Product (s ∷ []) h = absurd (omega arith)
-signs_built AnyTimes [] h = absurd (omega arith)
-signs_built OnceOrMore [] h = absurd (omega arith)
-signs_built AtMostOnce [] h = absurd (omega arith)
+-- a node takes its parts' positions with it
+positions_built : (n : Node) (ts : List Tree) → arity n ≤ length ts → positions_among (built n ts) ≡ length (letters (n ∷ [])) + positions_among ts
+positions_built NoWord ts h = refl
+positions_built EmptyWord ts h = refl
+positions_built (Symbol a) ts h = refl
+positions_built Union (s ∷ (t ∷ ts)) h = omega (arith, length-append (positions s) (positions t))
+positions_built Product (s ∷ (t ∷ ts)) h = omega (arith, length-append (positions s) (positions t))
+positions_built AnyTimes (t ∷ ts) h = omega arith
+positions_built OnceOrMore (t ∷ ts) h = omega arith
+positions_built AtMostOnce (t ∷ ts) h = omega arith
+positions_built Union [] h = absurd (omega arith)
+positions_built Union (s ∷ []) h = absurd (omega arith)
+positions_built Product [] h = absurd (omega arith)
+positions_built Product (s ∷ []) h = absurd (omega arith)
+positions_built AnyTimes [] h = absurd (omega arith)
+positions_built OnceOrMore [] h = absurd (omega arith)
+positions_built AtMostOnce [] h = absurd (omega arith)
 
--- the trees have as many signs as the nodes have letters
-pub signs_counted : (ns : List Node) → IsNotation ns → signs_among (trees ns) ≡ length (letters ns)
-signs_counted [] h = refl
-signs_counted (n ∷ ns) (h, k) =
-    let e : signs_among (trees ns) ≡ length (letters ns) = signs_counted ns k in
-    let f = signs_built n (trees ns) h in
+-- the trees have as many positions as the nodes have letters
+pub positions_counted : (ns : List Node) → IsNotation ns → positions_among (trees ns) ≡ length (letters ns)
+positions_counted [] h = refl
+positions_counted (n ∷ ns) (h, k) =
+    let e : positions_among (trees ns) ≡ length (letters ns) = positions_counted ns k in
+    let f = positions_built n (trees ns) h in
     let g : letters (n ∷ ns) ≡ letters (n ∷ []) ++ letters ns = letters_append (n ∷ []) ns in
     let i : length (letters (n ∷ ns)) ≡ length (letters (n ∷ [])) + length (letters ns) = ap length g ∙ length-append (letters (n ∷ [])) (letters ns) in
     omega arith

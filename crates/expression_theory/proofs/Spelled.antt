@@ -67,5 +67,5 @@ a_zero_or_b = (
   next_sequence (one_sequence (next_piece (alone 0) (atom (operand {x = NoWord})))) (alone 1),
 )
 
-pub one_sign : (a : ℕ) → Spells Union (Operand (Symbol a) ∷ []) (Letter a)
-one_sign a = one_sequence (alone a)
+pub one_position : (a : ℕ) → Spells Union (Operand (Symbol a) ∷ []) (Letter a)
+one_position a = one_sequence (alone a)

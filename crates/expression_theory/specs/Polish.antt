@@ -1,7 +1,7 @@
 -- Polish notation: the nodes of a tree, each before its parts.
 use Rattle.std.specs.Prelude.{ℕ, ◌+◌, ◌≤◌, ◌||◌, Bool, false, List, [], ◌∷◌, ◌++◌, length}
 use Rattle.expression_theory.specs.Expression.{Tree, Zero, One, Letter, Or, Cat, Star, Plus, Opt}
-use Rattle.expression_theory.specs.Positions.{signs, numbered}
+use Rattle.expression_theory.specs.Positions.{positions, numbered}
 use Rattle.expression_theory.specs.FirstLast.{follows}
 
 -- a node without its parts
@@ -31,7 +31,7 @@ abbrev pub polish_all : List Tree → List Node
 polish_all [] = []
 polish_all (t ∷ ts) = polish t ++ polish_all ts
 
--- the node takes the parts that it needs from the front of the trees
+-- the node takes the parts that it needs from the first of the trees
 abbrev pub built : Node → List Tree → List Tree
 built NoWord ts = Zero ∷ ts
 built EmptyWord ts = One ∷ ts
@@ -70,13 +70,13 @@ letters [] = []
 letters (Symbol a ∷ ns) = a ∷ letters ns
 letters (n ∷ ns) = letters ns
 
--- how many signs the trees have
-abbrev pub signs_among : List Tree → ℕ
-signs_among [] = 0
-signs_among (t ∷ ts) = length (signs t) + signs_among ts
+-- how many positions the trees have
+abbrev pub positions_among : List Tree → ℕ
+positions_among [] = 0
+positions_among (t ∷ ts) = length (positions t) + positions_among ts
 
--- whether q can follow p in a word of one of the trees, whose signs are numbered from n on
+-- whether q can follow p in a word of one of the trees, whose positions are numbered from n on
 abbrev pub follows_among : ℕ → List Tree → ℕ → ℕ → Bool
 follows_among n [] p q = false
 follows_among n (t ∷ ts) p q =
-    follows (numbered n t) p q || follows_among (n + length (signs t)) ts p q
+    follows (numbered n t) p q || follows_among (n + length (positions t)) ts p q

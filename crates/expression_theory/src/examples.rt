@@ -3,7 +3,7 @@
 ghost use Rattle.std.specs.Prelude.{◌≡◌, ◌↔◌, ◌⊎◌, ◌+◌, ℕ, true, List, [], ◌∷◌, codes, replicate};
 ghost use Rattle.language_theory.specs.Examples.{IsAbStar};
 ghost use Rattle.expression_theory.specs.Expression.{Tree, Zero, One, Letter, Or, Cat, Star, Plus, Opt, Means, nodes, most_nodes};
-ghost use Rattle.expression_theory.specs.Positions.{SignWord, Begins, Follows, Ends, numbered, IsPositions};
+ghost use Rattle.expression_theory.specs.Positions.{PositionWord, Begins, Follows, Ends, numbered, IsPositions};
 ghost use Rattle.expression_theory.specs.FirstLast.{firsts, lasts, follows};
 ghost use Rattle.expression_theory.specs.Scan.{classes, nodes_from, most_open, Unexpected, UnknownLetter, TooDeep, TooLarge, IsAccepted, IsFault, SpellsTree};
 ghost use Rattle.expression_theory.specs.Examples.{ab_star_positions};
@@ -93,17 +93,17 @@ pub fn ab_star_has_three_positions()
     ensures { IsPositions (Star (Cat (Letter 0) (Letter 1))) 2 ab_star_positions }
 {}
 
-/// In `a0|b` the sign a begins no word, follows no sign, is followed by none, and ends no word.
-/// The sign b begins a word and ends one.
-pub fn a_dead_sign_has_no_step()
+/// In `a0|b` the position of a begins no word, follows no position, is followed by none, and ends no word.
+/// The position of b begins a word and ends one.
+pub fn a_dead_position_has_no_step()
     ensures text { SpellsTree (classes (codes "ab") (codes "a0|b"))
         (Or (Cat (Letter 0) Zero) (Letter 1)) }
-    ensures begins { ¬ Begins (SignWord (Or (Cat (Letter 0) Zero) (Letter 1))) 1 }
-    ensures follows { (p : ℕ) → ¬ Follows (SignWord (Or (Cat (Letter 0) Zero) (Letter 1))) p 1 }
-    ensures followed { (q : ℕ) → ¬ Follows (SignWord (Or (Cat (Letter 0) Zero) (Letter 1))) 1 q }
-    ensures ends { ¬ Ends (SignWord (Or (Cat (Letter 0) Zero) (Letter 1))) 1 }
-    ensures live_begins { Begins (SignWord (Or (Cat (Letter 0) Zero) (Letter 1))) 2 }
-    ensures live_ends { Ends (SignWord (Or (Cat (Letter 0) Zero) (Letter 1))) 2 }
+    ensures begins { ¬ Begins (PositionWord (Or (Cat (Letter 0) Zero) (Letter 1))) 1 }
+    ensures follows { (p : ℕ) → ¬ Follows (PositionWord (Or (Cat (Letter 0) Zero) (Letter 1))) p 1 }
+    ensures followed { (q : ℕ) → ¬ Follows (PositionWord (Or (Cat (Letter 0) Zero) (Letter 1))) 1 q }
+    ensures ends { ¬ Ends (PositionWord (Or (Cat (Letter 0) Zero) (Letter 1))) 1 }
+    ensures live_begins { Begins (PositionWord (Or (Cat (Letter 0) Zero) (Letter 1))) 2 }
+    ensures live_ends { Ends (PositionWord (Or (Cat (Letter 0) Zero) (Letter 1))) 2 }
     ensures firsts { firsts (numbered 1 (Or (Cat (Letter 0) Zero) (Letter 1))) ≡ 2 ∷ [] }
     ensures lasts { lasts (numbered 1 (Or (Cat (Letter 0) Zero) (Letter 1))) ≡ 2 ∷ [] }
 {}

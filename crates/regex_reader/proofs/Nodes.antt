@@ -3,17 +3,17 @@ use Rattle.std.proofs.Common.{◌≡◌, ℕ, zero, suc, ◌+◌, ◌-◌, ◌<�
 use Rattle.std.proofs.lemmas.List.{get_or-map, length-map, take-append-drop, length-drop, length-reverse}
 use Rattle.expression_theory.specs.Expression.{Tree}
 use Rattle.expression_theory.specs.Polish as notation
-use Rattle.expression_theory.specs.Polish.{NoWord, polish, trees, IsNotation, letters, signs_among}
-use Rattle.expression_theory.proofs.Polish.{trees_of_polish, letters_append, notation_drop, signs_counted}
+use Rattle.expression_theory.specs.Polish.{NoWord, polish, trees, IsNotation, letters, positions_among}
+use Rattle.expression_theory.proofs.Polish.{trees_of_polish, letters_append, notation_drop, positions_counted}
 use Rattle.regex_reader.specs.declared.parts.Part.{Part}
 use Rattle.regex_reader.specs.declared.polish.Node.{Node}
 use Rattle.regex_reader.specs.declared.polish.Node.TheVariants as node
 use Rattle.regex_reader.specs.Marks.{Table, widest}
 use Rattle.regex_reader.specs.Notations.{node_of}
 use Rattle.regex_reader.specs.Parts.{IsPart, AreParts, IsEvaluated, HasCombined, CanRead}
-use Rattle.regex_reader.proofs.Combining.{read_on, sign_left, count_parts}
+use Rattle.regex_reader.proofs.Combining.{read_on, position_left, count_parts}
 
--- a node that keeps the count of signs
+-- a node that keeps the count of positions
 pub read_node : (ns : List Node) (x : Node) (n k : ℕ) (xs ys : List Part) (m m' : Table) → CanRead (map node_of ns) n xs m → get_or ns 0 node.Zero ≡ x →
     HasCombined (node_of x) n xs m k ys m' → IsEvaluated (trees (map node_of ns)) k ys m'
 read_node ns x n k xs ys m m' h e c =
@@ -25,7 +25,7 @@ read_node ns x n k xs ys m m' h e c =
 pub read_letter : (ns : List Node) (a n : ℕ) (xs ys : List Part) (m : Table) → CanRead (map node_of ns) n xs m → get_or ns 0 node.Zero ≡ node.Letter a →
     ((a : ℕ) (table : Table) → HasCombined (notation.Symbol a) ((n - 1) + 1) xs table (n - 1) ys table) → IsEvaluated (trees (map node_of ns)) (n - 1) ys m
 read_letter ns a n xs ys m h e c =
-    let s = sign_left (map node_of ns) n xs m h in
+    let s = position_left (map node_of ns) n xs m h in
     let f : (n - 1) + 1 ≡ n = omega arith in
     read_node ns (node.Letter a) n (n - 1) xs ys m m h e (subst (λ i. HasCombined (notation.Symbol a) i xs m (n - 1) ys m) f (c a m))
 
@@ -54,7 +54,7 @@ can_read ns i n xs m h w k b e =
 pub all_read : (ns : List notation.Node) (i n : ℕ) (xs : List Part) (m : Table) → IsNotation ns → m.width ≡ length (letters ns) + 1 → i ≤ 0 → IsEvaluated (trees (drop i ns)) n xs m → IsEvaluated (trees ns) 1 xs m
 all_read ns i n xs m h w z e =
     let f : IsEvaluated (trees ns) n xs m = subst (λ k. IsEvaluated (trees (drop k ns)) n xs m) (let g : i ≡ 0 = omega arith in g) e in
-    let s = signs_counted ns h in
+    let s = positions_counted ns h in
     let end = f.end in
     subst (λ k. IsEvaluated (trees ns) k xs m) (let g : n ≡ 1 = omega arith in g) f
 

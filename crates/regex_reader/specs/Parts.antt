@@ -1,32 +1,32 @@
--- What is known of the parts of an expression whose signs are numbered.
+-- What is known of the parts of an expression whose positions are numbered.
 use Rattle.std.specs.Prelude.{◌≡◌, ◌+◌, ◌≤◌, ◌<◌, ◌&&◌, ℕ, true, List, [], ◌∷◌, length, reverse, drop}
 use Rattle.std.specs.List.{All}
 use Rattle.expression_theory.specs.Expression.{Tree, Cat, Plus}
-use Rattle.expression_theory.specs.Positions.{signs, numbered}
+use Rattle.expression_theory.specs.Positions.{positions, numbered}
 use Rattle.expression_theory.specs.FirstLast.{has_word, has_empty, firsts, lasts, has, follows}
-use Rattle.expression_theory.specs.Polish.{Node, built, arity, trees, IsNotation, letters, signs_among, follows_among}
+use Rattle.expression_theory.specs.Polish.{Node, built, arity, trees, IsNotation, letters, positions_among, follows_among}
 use Rattle.regex_reader.specs.declared.parts.Part.{Part}
 use Rattle.regex_reader.specs.Marks.{widest, Table, is_marked}
 
--- each sign that can begin a word of the tree can follow each that can end one
+-- each position that can begin a word of the tree can follow each that can end one
 abbrev pub IsClosed : Tree → Type 0
 IsClosed t = (p q : ℕ) → (has (lasts t) p && has (firsts t) q) ≡ true → follows t p q ≡ true
 
--- r is of the tree t, whose signs are numbered from n on
+-- r is of the tree t, whose positions are numbered from n on
 pub record IsPart (n : ℕ) (t : Tree) (r : Part) : Type 0 where
   pub word : r.has_word ≡ has_word (numbered n t)
   pub empty : r.has_empty ≡ has_empty (numbered n t)
   pub first : r.first.items ≡ firsts (numbered n t)
   pub last : r.last.items ≡ lasts (numbered n t)
-  pub signs : r.signs ≡ length (signs t)
+  pub positions : r.positions ≡ length (positions t)
   pub closed : r.is_closed ≡ true → IsClosed (numbered n t)
 
--- of trees whose signs are numbered from n on, one after the other
+-- of trees whose positions are numbered from n on, one after the other
 abbrev pub AreParts : ℕ → List Tree → List Part → Type 0
 AreParts n [] [] = Unit {0}
 AreParts n [] (r ∷ rs) = ⊥
 AreParts n (t ∷ ts) [] = ⊥
-AreParts n (t ∷ ts) (r ∷ rs) = IsPart n t r × AreParts (n + length (signs t)) ts rs
+AreParts n (t ∷ ts) (r ∷ rs) = IsPart n t r × AreParts (n + length (positions t)) ts rs
 
 -- the table has what follows what in the trees
 abbrev pub IsFollowing : ℕ → List Tree → Table → Type 0
@@ -34,10 +34,10 @@ IsFollowing n ts table =
     (p q : ℕ) → p < table.width → q < table.width → is_marked table p q ≡ follows_among n ts p q
 
 -- the parts of the trees, the first one last, and the table of what follows what in them; their
--- signs go up to the table's end
+-- positions go up to the table's end
 pub record IsEvaluated (ts : List Tree) (n : ℕ) (parts : List Part) (table : Table) : Type 0 where
   pub known : AreParts n ts (reverse parts)
-  pub end : n + signs_among ts ≡ table.width
+  pub end : n + positions_among ts ≡ table.width
   pub marks : IsFollowing n ts table
 
 -- the first of the nodes can be read where those behind it have been
@@ -64,14 +64,14 @@ HasCombined node n old before k new after =
 -- the two parts fit into the table
 pub record CanJoin (n : ℕ) (left right : Part) (table : Table) : Type 0 where
   pub narrow : table.width ≤ widest
-  pub room : n + left.signs + right.signs ≤ table.width
+  pub room : n + left.positions + right.positions ≤ table.width
   pub last : All (λ p. p < table.width) left.last.items
   pub first : All (λ p. p < table.width) right.first.items
 
--- the pairs across are added where both parts have words; else no sign of them stands in a word
+-- the pairs across are added where both parts have words; else no position of them stands in a word
 abbrev pub HasJoined : ℕ → Part → Part → Table → Part → Table → Type 0
 HasJoined n left right before joined after =
-    (s t : Tree) (ts : List Tree) → IsPart n s left → IsPart (n + length (signs s)) t right
+    (s t : Tree) (ts : List Tree) → IsPart n s left → IsPart (n + length (positions s)) t right
     → IsFollowing n (s ∷ (t ∷ ts)) before →
     IsPart n (Cat s t) joined × IsFollowing n (Cat s t ∷ ts) after
 

@@ -7,7 +7,7 @@ ghost use Rattle.expression_theory.specs.Expression.{Tree, Opt};
 ghost use Rattle.regex_reader.specs.Marks.{widest, Table, is_marked};
 
 use crate::marks::Marks;
-use crate::parts::{Part, bare, behind, either, have_words, one_sign};
+use crate::parts::{Part, bare, behind, either, have_words, one_position};
 use crate::polish::Node;
 use std::alloc::Global;
 use syn_words::Memory;
@@ -41,22 +41,22 @@ fn read_bare(parts: &mut Vec<Part>, has_empty: bool) -> Result<(), Memory>
     Ok(())
 }
 
-/// Reads a sign whose number is given.
-fn read_sign(parts: &mut Vec<Part>, sign: u32) -> Result<(), Memory>
+/// Reads a position whose number is given.
+fn read_position(parts: &mut Vec<Part>, position: u32) -> Result<(), Memory>
     ensures { OnOk result ((a : ℕ) (table : Table)
         → HasCombined (notation.Symbol a)
-        (sign + 1) parts.old.items table sign parts.new.items table) }
+        (position + 1) parts.old.items table position parts.new.items table) }
 {
-    let part = one_sign(*parts.allocator(), sign)?;
+    let part = one_position(*parts.allocator(), position)?;
     parts.push(part)?;
     Ok(())
 }
 
 /// Reads a union.
-fn read_or(parts: &mut Vec<Part>, marks: &Marks, sign: u32) -> Result<(), Memory>
-    requires { CanCombine 2 sign parts.old.items marks.now }
+fn read_or(parts: &mut Vec<Part>, marks: &Marks, position: u32) -> Result<(), Memory>
+    requires { CanCombine 2 position parts.old.items marks.now }
     ensures { OnOk result
-        (HasCombined notation.Union sign parts.old.items marks.now sign parts.new.items marks.now) }
+        (HasCombined notation.Union position parts.old.items marks.now position parts.new.items marks.now) }
 {
     let (left, right) = take_two(parts);
     let part = either(left, right)?;
@@ -64,22 +64,22 @@ fn read_or(parts: &mut Vec<Part>, marks: &Marks, sign: u32) -> Result<(), Memory
     Ok(())
 }
 
-/// Puts two parts one behind the other, whose first sign has the number `sign`.
+/// Puts two parts one behind the other, whose first position has the number `position`.
 fn join(
     alloc: Global,
     left: Part,
     right: Part,
     marks: &mut Marks,
-    sign: u32,
+    position: u32,
 ) -> Result<Part, Memory>
-    requires { CanJoin sign left right marks.old }
-    ensures joined { IfOk result (λ r. HasJoined sign left right marks.old r marks.new) }
+    requires { CanJoin position left right marks.old }
+    ensures joined { IfOk result (λ r. HasJoined position left right marks.old r marks.new) }
     ensures width { marks.new.width ≡ marks.old.width }
 {
     if !have_words(&left, &right) {
-        let signs = left.signs + right.signs;
-        marks.clear_rows(sign, sign + signs);
-        return Ok(bare(alloc, false, signs));
+        let positions = left.positions + right.positions;
+        marks.clear_rows(position, position + positions);
+        return Ok(bare(alloc, false, positions));
     }
     marks.add_pairs(&left.last, &right.first);
     let part = behind(left, right)?;
@@ -87,19 +87,19 @@ fn join(
 }
 
 /// Reads a concatenation.
-fn read_cat(parts: &mut Vec<Part>, marks: &mut Marks, sign: u32) -> Result<(), Memory>
-    requires { CanCombine 2 sign parts.old.items marks.old }
+fn read_cat(parts: &mut Vec<Part>, marks: &mut Marks, position: u32) -> Result<(), Memory>
+    requires { CanCombine 2 position parts.old.items marks.old }
     ensures combined { OnOk result
-        (HasCombined notation.Product sign parts.old.items marks.old sign parts.new.items marks.new) }
+        (HasCombined notation.Product position parts.old.items marks.old position parts.new.items marks.new) }
     ensures width { marks.new.width ≡ marks.old.width }
 {
     let (left, right) = take_two(parts);
-    let part = join(*parts.allocator(), left, right, marks, sign)?;
+    let part = join(*parts.allocator(), left, right, marks, position)?;
     parts.push(part)?;
     Ok(())
 }
 
-/// The part once or more: each sign that can begin a word then follows each that can end one.
+/// The part once or more: each position that can begin a word then follows each that can end one.
 fn repeated(part: Part, marks: &mut Marks) -> Part
     requires { CanRepeat part marks.old }
     ensures repeated { HasRepeated part marks.old result marks.new }
@@ -126,10 +126,10 @@ fn optional(part: Part) -> Part
 }
 
 /// Reads `*`.
-fn read_star(parts: &mut Vec<Part>, marks: &mut Marks, sign: u32) -> Result<(), Memory>
-    requires { CanCombine 1 sign parts.old.items marks.old }
+fn read_star(parts: &mut Vec<Part>, marks: &mut Marks, position: u32) -> Result<(), Memory>
+    requires { CanCombine 1 position parts.old.items marks.old }
     ensures combined { OnOk result
-        (HasCombined notation.AnyTimes sign parts.old.items marks.old sign parts.new.items marks.new) }
+        (HasCombined notation.AnyTimes position parts.old.items marks.old position parts.new.items marks.new) }
     ensures width { marks.new.width ≡ marks.old.width }
 {
     let part = take_one(parts);
@@ -140,10 +140,10 @@ fn read_star(parts: &mut Vec<Part>, marks: &mut Marks, sign: u32) -> Result<(), 
 }
 
 /// Reads `+`.
-fn read_plus(parts: &mut Vec<Part>, marks: &mut Marks, sign: u32) -> Result<(), Memory>
-    requires { CanCombine 1 sign parts.old.items marks.old }
+fn read_plus(parts: &mut Vec<Part>, marks: &mut Marks, position: u32) -> Result<(), Memory>
+    requires { CanCombine 1 position parts.old.items marks.old }
     ensures combined { OnOk result
-        (HasCombined notation.OnceOrMore sign parts.old.items marks.old sign parts.new.items marks.new) }
+        (HasCombined notation.OnceOrMore position parts.old.items marks.old position parts.new.items marks.new) }
     ensures width { marks.new.width ≡ marks.old.width }
 {
     let part = take_one(parts);
@@ -153,10 +153,10 @@ fn read_plus(parts: &mut Vec<Part>, marks: &mut Marks, sign: u32) -> Result<(), 
 }
 
 /// Reads `?`.
-fn read_opt(parts: &mut Vec<Part>, marks: &Marks, sign: u32) -> Result<(), Memory>
-    requires { CanCombine 1 sign parts.old.items marks.now }
+fn read_opt(parts: &mut Vec<Part>, marks: &Marks, position: u32) -> Result<(), Memory>
+    requires { CanCombine 1 position parts.old.items marks.now }
     ensures { OnOk result
-        (HasCombined notation.AtMostOnce sign parts.old.items marks.now sign parts.new.items marks.now) }
+        (HasCombined notation.AtMostOnce position parts.old.items marks.now position parts.new.items marks.now) }
 {
     let part = take_one(parts);
     let part = optional(part);
@@ -164,14 +164,14 @@ fn read_opt(parts: &mut Vec<Part>, marks: &Marks, sign: u32) -> Result<(), Memor
     Ok(())
 }
 
-/// Reads the first of the nodes, where those behind it have been read. Returns the number of the first sign.
+/// Reads the first of the nodes, where those behind it have been read. Returns the number of the first position.
 fn read_first(
     nodes: &[Node],
     parts: &mut Vec<Part>,
     marks: &mut Marks,
-    sign: u32,
+    position: u32,
 ) -> Result<u32, Memory>
-    requires { CanRead (map node_of nodes.now) sign parts.old.items marks.old }
+    requires { CanRead (map node_of nodes.now) position parts.old.items marks.old }
     ensures evaluated { IfOk result
         (λ n. IsEvaluated (notation.trees (map node_of nodes.now)) n parts.new.items marks.new) }
     ensures width { marks.new.width ≡ marks.old.width }
@@ -180,16 +180,16 @@ fn read_first(
         Node::Zero => read_bare(parts, false)?,
         Node::One => read_bare(parts, true)?,
         Node::Letter(_) => {
-            read_sign(parts, sign - 1)?;
-            return Ok(sign - 1);
+            read_position(parts, position - 1)?;
+            return Ok(position - 1);
         }
-        Node::Or => read_or(parts, marks, sign)?,
-        Node::Cat => read_cat(parts, marks, sign)?,
-        Node::Star => read_star(parts, marks, sign)?,
-        Node::Plus => read_plus(parts, marks, sign)?,
-        Node::Opt => read_opt(parts, marks, sign)?,
+        Node::Or => read_or(parts, marks, position)?,
+        Node::Cat => read_cat(parts, marks, position)?,
+        Node::Star => read_star(parts, marks, position)?,
+        Node::Plus => read_plus(parts, marks, position)?,
+        Node::Opt => read_opt(parts, marks, position)?,
     }
-    Ok(sign)
+    Ok(position)
 }
 
 /// Reads all nodes, the last one first.
@@ -203,12 +203,12 @@ fn read_all(nodes: &[Node], parts: &mut Vec<Part>, marks: &mut Marks) -> Result<
         (IsEvaluated (notation.trees (map node_of nodes.now)) 1 parts.new.items marks.new) }
     ensures width { marks.new.width ≡ marks.old.width }
 {
-    let mut sign = marks.width() as u32;
+    let mut position = marks.width() as u32;
     let mut place = nodes.len();
     while place > 0 {
         place -= 1;
         let (_, rest) = nodes.split_at(place);
-        sign = read_first(rest, parts, marks, sign)?;
+        position = read_first(rest, parts, marks, position)?;
     }
     Ok(())
 }

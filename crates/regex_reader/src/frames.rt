@@ -47,7 +47,7 @@ fn joined(alloc: Global, sequence: Option<Expr>, piece: Expr) -> Result<Expr, Me
 {
     match sequence {
         None => Ok(piece),
-        Some(front) => Ok(Expr::Cat(Box::new(alloc, front)?, Box::new(alloc, piece)?)),
+        Some(before) => Ok(Expr::Cat(Box::new(alloc, before)?, Box::new(alloc, piece)?)),
     }
 }
 
@@ -58,7 +58,7 @@ fn either(alloc: Global, alternatives: Option<Expr>, sequence: Expr) -> Result<E
 {
     match alternatives {
         None => Ok(sequence),
-        Some(front) => Ok(Expr::Or(Box::new(alloc, front)?, Box::new(alloc, sequence)?)),
+        Some(before) => Ok(Expr::Or(Box::new(alloc, before)?, Box::new(alloc, sequence)?)),
     }
 }
 

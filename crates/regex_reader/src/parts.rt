@@ -4,29 +4,29 @@ ghost use Rattle.std.specs.Prelude.{◌≡◌, ◌+◌, ◌≤◌, ◌<◌, ◌&
 use std::alloc::Global;
 use syn_words::Memory;
 
-/// A part of an expression whose signs are numbered from the left.
+/// A part of an expression whose positions are numbered from the left.
 #[derive(Drop)]
 pub struct Part {
     /// Whether it has a word.
     pub has_word: bool,
     /// Whether it has the empty word.
     pub has_empty: bool,
-    /// Whether it is known that each sign that can begin a word can follow each that can end one.
+    /// Whether it is known that each position that can begin a word can follow each that can end one.
     pub is_closed: bool,
-    /// How many signs it has.
-    pub signs: u32,
-    /// The signs that can begin a word.
+    /// How many positions it has.
+    pub positions: u32,
+    /// The positions that can begin a word.
     pub first: Vec<u32>,
-    /// The signs that can end a word.
+    /// The positions that can end a word.
     pub last: Vec<u32>,
 }
 
-/// A part in which no sign can stand in a word. It has the empty word or none.
-pub fn bare(alloc: Global, has_empty: bool, signs: u32) -> Part
+/// A part in which no position can stand in a word. It has the empty word or none.
+pub fn bare(alloc: Global, has_empty: bool, positions: u32) -> Part
     ensures word { result.has_word ≡ has_empty }
     ensures empty { result.has_empty ≡ has_empty }
     ensures closed { result.is_closed ≡ true }
-    ensures signs { result.signs ≡ signs }
+    ensures positions { result.positions ≡ positions }
     ensures first { result.first.items ≡ [] }
     ensures last { result.last.items ≡ [] }
 {
@@ -34,28 +34,28 @@ pub fn bare(alloc: Global, has_empty: bool, signs: u32) -> Part
         has_word: has_empty,
         has_empty,
         is_closed: true,
-        signs,
+        positions,
         first: Vec::new(alloc),
         last: Vec::new(alloc),
     }
 }
 
-/// A part that is one sign.
-pub fn one_sign(alloc: Global, sign: u32) -> Result<Part, Memory>
+/// A part that is one position.
+pub fn one_position(alloc: Global, position: u32) -> Result<Part, Memory>
     ensures word { IfOk result (λ r. r.has_word ≡ true) }
     ensures empty { IfOk result (λ r. r.has_empty ≡ false) }
     ensures closed { IfOk result (λ r. r.is_closed ≡ false) }
-    ensures signs { IfOk result (λ r. r.signs ≡ 1) }
-    ensures first { IfOk result (λ r. r.first.items ≡ sign ∷ []) }
-    ensures last { IfOk result (λ r. r.last.items ≡ sign ∷ []) }
+    ensures positions { IfOk result (λ r. r.positions ≡ 1) }
+    ensures first { IfOk result (λ r. r.first.items ≡ position ∷ []) }
+    ensures last { IfOk result (λ r. r.last.items ≡ position ∷ []) }
 {
     Ok(Part {
         has_word: true,
         has_empty: false,
         is_closed: false,
-        signs: 1,
-        first: vec![in alloc; sign]?,
-        last: vec![in alloc; sign]?,
+        positions: 1,
+        first: vec![in alloc; position]?,
+        last: vec![in alloc; position]?,
     })
 }
 
@@ -68,11 +68,11 @@ pub fn have_words(left: &Part, right: &Part) -> bool
 
 /// The union of two parts.
 pub fn either(left: Part, right: Part) -> Result<Part, Memory>
-    requires { left.signs + right.signs < 2 ^ 32 }
+    requires { left.positions + right.positions < 2 ^ 32 }
     ensures word { IfOk result (λ r. r.has_word ≡ (left.has_word || right.has_word)) }
     ensures empty { IfOk result (λ r. r.has_empty ≡ (left.has_empty || right.has_empty)) }
     ensures closed { IfOk result (λ r. r.is_closed ≡ false) }
-    ensures signs { IfOk result (λ r. r.signs ≡ left.signs + right.signs) }
+    ensures positions { IfOk result (λ r. r.positions ≡ left.positions + right.positions) }
     ensures first { IfOk result (λ r. r.first.items ≡ left.first.items ++ right.first.items) }
     ensures last { IfOk result (λ r. r.last.items ≡ left.last.items ++ right.last.items) }
 {
@@ -84,7 +84,7 @@ pub fn either(left: Part, right: Part) -> Result<Part, Memory>
         has_word: left.has_word || right.has_word,
         has_empty: left.has_empty || right.has_empty,
         is_closed: false,
-        signs: left.signs + right.signs,
+        positions: left.positions + right.positions,
         first,
         last,
     })
@@ -92,11 +92,11 @@ pub fn either(left: Part, right: Part) -> Result<Part, Memory>
 
 /// One part behind the other, where both have words.
 pub fn behind(left: Part, right: Part) -> Result<Part, Memory>
-    requires { left.signs + right.signs < 2 ^ 32 }
+    requires { left.positions + right.positions < 2 ^ 32 }
     ensures word { IfOk result (λ r. r.has_word ≡ true) }
     ensures empty { IfOk result (λ r. r.has_empty ≡ (left.has_empty && right.has_empty)) }
     ensures closed { IfOk result (λ r. r.is_closed ≡ false) }
-    ensures signs { IfOk result (λ r. r.signs ≡ left.signs + right.signs) }
+    ensures positions { IfOk result (λ r. r.positions ≡ left.positions + right.positions) }
     ensures first { IfOk result
         (λ r. r.first.items ≡ left.first.items ++ cond left.has_empty right.first.items []) }
     ensures last { IfOk result
@@ -115,7 +115,7 @@ pub fn behind(left: Part, right: Part) -> Result<Part, Memory>
         has_word: true,
         has_empty: left.has_empty && right.has_empty,
         is_closed: false,
-        signs: left.signs + right.signs,
+        positions: left.positions + right.positions,
         first,
         last,
     })

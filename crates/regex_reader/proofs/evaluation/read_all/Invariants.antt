@@ -8,7 +8,7 @@ abbrev pub invariant-loop-place : goal.invariant-loop-place
 invariant-loop-place l = record {
   place : l.place ≤ length l.nodes;
   width : l.marks.width ≡ l.fn.marks.width;
-  evaluated : IsEvaluated (notation.trees (drop l.place (map node_of l.nodes))) l.sign l.parts.items l.marks;
+  evaluated : IsEvaluated (notation.trees (drop l.place (map node_of l.nodes))) l.position l.parts.items l.marks;
 }
 
 abbrev pub decreases-loop-place : goal.decreases-loop-place

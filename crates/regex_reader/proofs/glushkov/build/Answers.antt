@@ -10,6 +10,6 @@ pub returns : goal.returns
 returns c =
     let last : HasFinals c.set_final_if.new.nfa c.set_finals.new.nfa (has c.args.part.now.last.items) =
     subst (λ xs. HasFinals c.set_final_if.new.nfa c.set_finals.new.nfa (has xs)) c.deref.ensures.value c.set_finals.ensures in
-    built_from (length c.args.signs.now + 1) c.args.letters c.args.part.now.has_empty c.args.part.now.last.items c.args.marks.now c.args.signs.now
+    built_from (length c.args.positions.now + 1) c.args.letters c.args.part.now.has_empty c.args.part.now.last.items c.args.marks.now c.args.positions.now
     c.set_initial.new.self c.set_final_if.new.nfa c.set_finals.new.nfa c.add_rows.new.nfa
     (c.set_initial.ensures ∙ ap (λ (m : Automaton). with_initial m 0) c.in_ok-nfa.ensures.bare) c.set_final_if.ensures last c.in_ok-add_rows.ensures refl c.requires.width

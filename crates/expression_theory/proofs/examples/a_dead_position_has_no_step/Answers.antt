@@ -1,6 +1,6 @@
 use Rattle.expression_theory.proofs.Spelled.{a_zero_or_b}
 use Rattle.expression_theory.proofs.SomeWords.{none_follows}
-use Rattle.expression_theory.proofs.examples.a_dead_sign_has_no_step.Goals as goal
+use Rattle.expression_theory.proofs.examples.a_dead_position_has_no_step.Goals as goal
 
 pub returns-clause-text : goal.returns-clause-text
 returns-clause-text c = a_zero_or_b
