@@ -14,9 +14,8 @@ use Rattle.expression_theory.proofs.Exchange.{between}
 use Rattle.expression_theory.proofs.Relabel.{Image, has_positions, from_positions}
 use Rattle.expression_theory.proofs.FirstLast.{has_empty_decides, firsts_decide, lasts_decide, follows_decide}
 use Rattle.expression_theory.proofs.Acceptance.{steps_below}
-use Rattle.regex_reader.specs.declared.parts.Part.{Part}
 use Rattle.regex_reader.specs.Marks.{Table, is_marked, IsAdded}
-use Rattle.regex_reader.specs.Parts.{IsPart, IsFollowing}
+use Rattle.regex_reader.specs.Parts.{IsPart, IsFollowing, Summary}
 use Rattle.regex_reader.specs.Growth.{HasFinals, HasGrown, IsTableStep, IsBuilt}
 use Rattle.regex_reader.proofs.Tables.{or_nothing}
 
@@ -108,7 +107,7 @@ with_begin t m m' xs w f e add = record {
 }
 
 -- what is built is the position automaton
-pub built_positions : (t : Tree) (k : ℕ) (r : Part) (m : Table) (xs : List ℕ) (a : Automaton) → IsPart 1 t r → HasSteps t m → xs ≡ positions t → IsBuilt r.has_empty r.last.items m xs k a → IsPositions t k a
+pub built_positions : (t : Tree) (k : ℕ) (r : Summary) (m : Table) (xs : List ℕ) (a : Automaton) → IsPart 1 t r → HasSteps t m → xs ≡ positions t → IsBuilt r.has_empty r.last m xs k a → IsPositions t k a
 built_positions t k r m xs a part table e built = record {
   states = built.states ∙ ap (λ l. length l + 1) e;
   letters = built.letters;
@@ -118,7 +117,7 @@ built_positions t k r m xs a part table e built = record {
 }
   where
     finals : (p : ℕ) → is_final a p ≡ Finals t p
-    finals p = built.finals p ∙ ap (λ b. (b && (0 == p)) || has r.last.items p) part.empty ∙ ap (λ l. (has_empty (numbered 1 t) && (0 == p)) || has l p) part.last
+    finals p = built.finals p ∙ ap (λ b. (b && (0 == p)) || has r.last p) part.empty ∙ ap (λ l. (has_empty (numbered 1 t) && (0 == p)) || has l p) part.last
 
     to : (p x q : ℕ) → IsTrue (has_step a p x q) → StepsTo t p q × (letter_of t q ≡ x)
     to p x q h = by ((built.steps p x q).0 h)

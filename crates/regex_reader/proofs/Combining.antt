@@ -13,9 +13,8 @@ use Rattle.expression_theory.proofs.Polish.{letters_append, positions_counted}
 use Rattle.expression_theory.proofs.FirstLast.{has_word_decides, has_empty_decides, follows_decide}
 use Rattle.expression_theory.proofs.Sizes.{firsts_below, lasts_below}
 use Rattle.expression_theory.proofs.Exchange.{ends_at}
-use Rattle.regex_reader.specs.declared.parts.Part.{Part}
 use Rattle.regex_reader.specs.Marks.{Table, is_marked, IsAdded, IsCleared}
-use Rattle.regex_reader.specs.Parts.{IsPart, AreParts, IsFollowing, IsEvaluated, CanCombine, HasCombined, CanJoin, HasJoined, CanRepeat, HasRepeated, CanRead}
+use Rattle.regex_reader.specs.Parts.{IsPart, AreParts, IsFollowing, IsEvaluated, CanCombine, HasCombined, CanJoin, HasJoined, CanRepeat, HasRepeated, CanRead, Summary}
 
 either_way : (b : Bool) → (b ≡ true) ⊎ (b ≡ false)
 either_way true = inl refl
@@ -47,28 +46,28 @@ live_bools false false false true = refl
 live_bools false false false false = refl
 
 -- a concatenation whose parts have words
-pub joined_live : (n : ℕ) (s t : Tree) (ts : List Tree) (l r k : Part) (m m' : Table) → IsPart n s l → IsPart (n + length (positions s)) t r → IsFollowing n (s ∷ (t ∷ ts)) m →
-    (l.has_word && r.has_word) ≡ true → IsAdded m m' (λ p q. has l.last.items p && has r.first.items q) →
+pub joined_live : (n : ℕ) (s t : Tree) (ts : List Tree) (l r k : Summary) (m m' : Table) → IsPart n s l → IsPart (n + length (positions s)) t r → IsFollowing n (s ∷ (t ∷ ts)) m →
+    (l.has_word && r.has_word) ≡ true → IsAdded m m' (λ p q. has l.last p && has r.first q) →
     k.has_word ≡ true → k.has_empty ≡ (l.has_empty && r.has_empty) → k.is_closed ≡ false → k.positions ≡ l.positions + r.positions →
-    k.first.items ≡ l.first.items ++ cond l.has_empty r.first.items [] → k.last.items ≡ cond r.has_empty l.last.items [] ++ r.last.items →
+    k.first ≡ l.first ++ cond l.has_empty r.first [] → k.last ≡ cond r.has_empty l.last [] ++ r.last →
     IsPart n (Cat s t) k × IsFollowing n (Cat s t ∷ ts) m'
 joined_live n s t ts l r k m m' hl hr f w add kw ke kc ks kf kl = (
   record {
     word = kw ∙ sym words;
     empty = ke ∙ ap (λ b. b && r.has_empty) hl.empty ∙ ap (λ b. has_empty s' && b) hr.empty;
     first =
-        kf ∙ ap (λ xs. xs ++ cond l.has_empty r.first.items []) hl.first ∙ ap (λ b. firsts s' ++ cond b r.first.items []) hl.empty
+        kf ∙ ap (λ xs. xs ++ cond l.has_empty r.first []) hl.first ∙ ap (λ b. firsts s' ++ cond b r.first []) hl.empty
         ∙ ap (λ xs. firsts s' ++ cond (has_empty s') xs []) hr.first ∙ sym (ap (λ b. cond b (firsts s' ++ cond (has_empty s') (firsts t') []) []) words);
     last =
-        kl ∙ ap (λ xs. cond r.has_empty l.last.items [] ++ xs) hr.last ∙ ap (λ b. cond b l.last.items [] ++ lasts t') hr.empty
+        kl ∙ ap (λ xs. cond r.has_empty l.last [] ++ xs) hr.last ∙ ap (λ b. cond b l.last [] ++ lasts t') hr.empty
         ∙ ap (λ xs. cond (has_empty t') xs [] ++ lasts t') hl.last ∙ sym (ap (λ b. cond b (cond (has_empty t') (lasts s') [] ++ lasts t') []) words);
     positions = ks ∙ ap (λ i. i + r.positions) hl.positions ∙ ap (λ i. length (positions s) + i) hr.positions ∙ sym (length-append (positions s) (positions t));
     closed = λ e. absurd (let g : true ≡ false = sym e ∙ kc in cc);
   },
   λ p q a b.
       add.each p q (subst (λ i. p < i) add.width a) (subst (λ i. q < i) add.width b)
-      ∙ ap (λ x. x || (has l.last.items p && has r.first.items q)) (f p q (subst (λ i. p < i) add.width a) (subst (λ i. q < i) add.width b))
-      ∙ ap (λ xs. (follows s' p q || (follows t' p q || follows_among ((n + length (positions s)) + length (positions t)) ts p q)) || (has xs p && has r.first.items q)) hl.last
+      ∙ ap (λ x. x || (has l.last p && has r.first q)) (f p q (subst (λ i. p < i) add.width a) (subst (λ i. q < i) add.width b))
+      ∙ ap (λ xs. (follows s' p q || (follows t' p q || follows_among ((n + length (positions s)) + length (positions t)) ts p q)) || (has xs p && has r.first q)) hl.last
       ∙ ap (λ xs. (follows s' p q || (follows t' p q || follows_among ((n + length (positions s)) + length (positions t)) ts p q)) || (has (lasts s') p && has xs q)) hr.first
       ∙ live_bools (follows s' p q) (follows t' p q) (follows_among ((n + length (positions s)) + length (positions t)) ts p q) (has (lasts s') p && has (firsts t') q)
       ∙ ap (λ i. ((follows s' p q || follows t' p q) || (has (lasts s') p && has (firsts t') q)) || follows_among i ts p q) (ends_at n (positions s) (positions t))
@@ -96,9 +95,9 @@ dead_empty : (s t : Tree) → (has_word s && has_word t) ≡ false → (has_empt
 dead_empty s t e = no_empty (Cat s t) e
 
 -- a concatenation in which a part has no word
-pub joined_dead : (n : ℕ) (s t : Tree) (ts : List Tree) (l r k : Part) (m m' : Table) → IsPart n s l → IsPart (n + length (positions s)) t r → IsFollowing n (s ∷ (t ∷ ts)) m →
+pub joined_dead : (n : ℕ) (s t : Tree) (ts : List Tree) (l r k : Summary) (m m' : Table) → IsPart n s l → IsPart (n + length (positions s)) t r → IsFollowing n (s ∷ (t ∷ ts)) m →
     (l.has_word && r.has_word) ≡ false → IsCleared m m' n (n + (l.positions + r.positions)) →
-    k.has_word ≡ false → k.has_empty ≡ false → k.positions ≡ l.positions + r.positions → k.first.items ≡ [] → k.last.items ≡ [] →
+    k.has_word ≡ false → k.has_empty ≡ false → k.positions ≡ l.positions + r.positions → k.first ≡ [] → k.last ≡ [] →
     IsPart n (Cat s t) k × IsFollowing n (Cat s t ∷ ts) m'
 joined_dead n s t ts l r k m m' hl hr f w cleared kw ke ks kf kl = (
   record {
@@ -154,27 +153,27 @@ joined_dead n s t ts l r k m m' hl hr f w cleared kw ke ks kf kl = (
         cleared.inside p q h g b ∙ sym (rest p q ∙ among_out ts (n + length (positions s ++ positions t)) p q (omega (arith, length-append (positions s) (positions t))))
 
 -- a union
-pub united : (n : ℕ) (s t : Tree) (l r k : Part) → IsPart n s l → IsPart (n + length (positions s)) t r →
+pub united : (n : ℕ) (s t : Tree) (l r k : Summary) → IsPart n s l → IsPart (n + length (positions s)) t r →
     k.has_word ≡ (l.has_word || r.has_word) → k.has_empty ≡ (l.has_empty || r.has_empty) → k.is_closed ≡ false → k.positions ≡ l.positions + r.positions →
-    k.first.items ≡ l.first.items ++ r.first.items → k.last.items ≡ l.last.items ++ r.last.items → IsPart n (Or s t) k
+    k.first ≡ l.first ++ r.first → k.last ≡ l.last ++ r.last → IsPart n (Or s t) k
 united n s t l r k hl hr kw ke kc ks kf kl = record {
   word = kw ∙ ap (λ b. b || r.has_word) hl.word ∙ ap (λ b. has_word (numbered n s) || b) hr.word;
   empty = ke ∙ ap (λ b. b || r.has_empty) hl.empty ∙ ap (λ b. has_empty (numbered n s) || b) hr.empty;
-  first = kf ∙ ap (λ xs. xs ++ r.first.items) hl.first ∙ ap (λ xs. firsts (numbered n s) ++ xs) hr.first;
-  last = kl ∙ ap (λ xs. xs ++ r.last.items) hl.last ∙ ap (λ xs. lasts (numbered n s) ++ xs) hr.last;
+  first = kf ∙ ap (λ xs. xs ++ r.first) hl.first ∙ ap (λ xs. firsts (numbered n s) ++ xs) hr.first;
+  last = kl ∙ ap (λ xs. xs ++ r.last) hl.last ∙ ap (λ xs. lasts (numbered n s) ++ xs) hr.last;
   positions = ks ∙ ap (λ i. i + r.positions) hl.positions ∙ ap (λ i. length (positions s) + i) hr.positions ∙ sym (length-append (positions s) (positions t));
   closed = λ e. absurd (let g : true ≡ false = sym e ∙ kc in cc);
 }
 
 -- as many parts as trees
-pub count_parts : (n : ℕ) (ts : List Tree) (rs : List Part) → AreParts n ts rs → length rs ≡ length ts
+pub count_parts : (n : ℕ) (ts : List Tree) (rs : List Summary) → AreParts n ts rs → length rs ≡ length ts
 count_parts n [] [] h = refl
 count_parts n [] (r ∷ rs) h = absurd h
 count_parts n (t ∷ ts) [] h = absurd h
 count_parts n (t ∷ ts) (r ∷ rs) (h, k) = let e = count_parts (n + length (positions t)) ts rs k in omega arith
 
 -- the two parts of a concatenation fit into the table
-pub can_join : (n : ℕ) (xs ys : List Part) (l r : Part) (m : Table) → CanCombine 2 n xs m → reverse xs ≡ l ∷ (r ∷ reverse ys) → CanJoin n l r m
+pub can_join : (n : ℕ) (xs ys : List Summary) (l r : Summary) (m : Table) → CanCombine 2 n xs m → reverse xs ≡ l ∷ (r ∷ reverse ys) → CanJoin n l r m
 can_join n xs ys l r m h e = by h.trees (subst (AreParts n h.trees) e h.evaluated.known) h.evaluated.end
   where
     by : (ts : List Tree) → AreParts n ts (l ∷ (r ∷ reverse ys)) → n + positions_among ts ≡ m.width → CanJoin n l r m
@@ -190,7 +189,7 @@ can_join n xs ys l r m h e = by h.trees (subst (AreParts n h.trees) e h.evaluate
         }
 
 -- the part before a postfix sign fits into the table
-pub can_repeat : (n : ℕ) (xs ys : List Part) (r : Part) (m : Table) → CanCombine 1 n xs m → reverse xs ≡ r ∷ reverse ys → CanRepeat r m
+pub can_repeat : (n : ℕ) (xs ys : List Summary) (r : Summary) (m : Table) → CanCombine 1 n xs m → reverse xs ≡ r ∷ reverse ys → CanRepeat r m
 can_repeat n xs ys r m h e = by h.trees (subst (AreParts n h.trees) e h.evaluated.known) h.evaluated.end
   where
     by : (ts : List Tree) → AreParts n ts (r ∷ reverse ys) → n + positions_among ts ≡ m.width → CanRepeat r m
@@ -201,7 +200,7 @@ can_repeat n xs ys r m h e = by h.trees (subst (AreParts n h.trees) e h.evaluate
     }
 
 -- the part that was put together is the first of all
-pushed : (n : ℕ) (t : Tree) (ts : List Tree) (k : Part) (ys zs : List Part) → zs ≡ ys ++ k ∷ [] → IsPart n t k → AreParts (n + length (positions t)) ts (reverse ys) → AreParts n (t ∷ ts) (reverse zs)
+pushed : (n : ℕ) (t : Tree) (ts : List Tree) (k : Summary) (ys zs : List Summary) → zs ≡ ys ++ k ∷ [] → IsPart n t k → AreParts (n + length (positions t)) ts (reverse ys) → AreParts n (t ∷ ts) (reverse zs)
 pushed n t ts k ys zs z h g = subst (AreParts n (t ∷ ts)) (sym (ap reverse z ∙ reverse-append ys (k ∷ []))) (h, g)
 
 or_marks : (n : ℕ) (s t : Tree) (ts : List Tree) (m : Table) → IsFollowing n (s ∷ (t ∷ ts)) m → IsFollowing n (Or s t ∷ ts) m
@@ -212,9 +211,9 @@ or_marks n s t ts m f p q a b =
     ∙ ap (λ i. (follows s' p q || follows t' p q) || follows_among i ts p q) (ends_at n (positions s) (positions t))
 
 -- the union of the first two parts
-pub combine_or : (n : ℕ) (xs ys zs : List Part) (l r k : Part) (m : Table) → reverse xs ≡ l ∷ (r ∷ reverse ys) → zs ≡ ys ++ k ∷ [] →
+pub combine_or : (n : ℕ) (xs ys zs : List Summary) (l r k : Summary) (m : Table) → reverse xs ≡ l ∷ (r ∷ reverse ys) → zs ≡ ys ++ k ∷ [] →
     k.has_word ≡ (l.has_word || r.has_word) → k.has_empty ≡ (l.has_empty || r.has_empty) → k.is_closed ≡ false → k.positions ≡ l.positions + r.positions →
-    k.first.items ≡ l.first.items ++ r.first.items → k.last.items ≡ l.last.items ++ r.last.items → HasCombined Union n xs m n zs m
+    k.first ≡ l.first ++ r.first → k.last ≡ l.last ++ r.last → HasCombined Union n xs m n zs m
 combine_or n xs ys zs l r k m e z kw ke kc ks kf kl = λ ts h v. by ts (subst (AreParts n ts) e v.known) v.end v.marks
   where
     by : (ts : List Tree) → AreParts n ts (l ∷ (r ∷ reverse ys)) → n + positions_among ts ≡ m.width → IsFollowing n ts m → IsEvaluated (built Union ts) n zs m
@@ -227,7 +226,7 @@ combine_or n xs ys zs l r k m e z kw ke kc ks kf kl = λ ts h v. by ts (subst (A
     }
 
 -- the concatenation of the first two parts
-pub combine_cat : (n : ℕ) (xs ys zs : List Part) (l r k : Part) (m m' : Table) → reverse xs ≡ l ∷ (r ∷ reverse ys) → zs ≡ ys ++ k ∷ [] → HasJoined n l r m k m' → m'.width ≡ m.width →
+pub combine_cat : (n : ℕ) (xs ys zs : List Summary) (l r k : Summary) (m m' : Table) → reverse xs ≡ l ∷ (r ∷ reverse ys) → zs ≡ ys ++ k ∷ [] → HasJoined n l r m k m' → m'.width ≡ m.width →
     HasCombined Product n xs m n zs m'
 combine_cat n xs ys zs l r k m m' e z joined w = λ ts h v. by ts (subst (AreParts n ts) e v.known) v.end v.marks
   where
@@ -243,7 +242,7 @@ combine_cat n xs ys zs l r k m m' e z joined w = λ ts h v. by ts (subst (ArePar
         }
 
 -- the first part once or more
-pub combine_plus : (n : ℕ) (xs ys zs : List Part) (r k : Part) (m m' : Table) → reverse xs ≡ r ∷ reverse ys → zs ≡ ys ++ k ∷ [] → HasRepeated r m k m' → m'.width ≡ m.width →
+pub combine_plus : (n : ℕ) (xs ys zs : List Summary) (r k : Summary) (m m' : Table) → reverse xs ≡ r ∷ reverse ys → zs ≡ ys ++ k ∷ [] → HasRepeated r m k m' → m'.width ≡ m.width →
     HasCombined OnceOrMore n xs m n zs m'
 combine_plus n xs ys zs r k m m' e z repeated w = λ ts h v. by ts (subst (AreParts n ts) e v.known) v.end v.marks
   where
@@ -252,11 +251,11 @@ combine_plus n xs ys zs r k m m' e z repeated w = λ ts h v. by ts (subst (ArePa
     by (t ∷ us) (hr, h) end f = let j = repeated n t us hr f in record { known = pushed n (Plus t) us k ys zs z j.0 h; end = end ∙ sym w; marks = j.1 }
 
 -- once or more, or not at all, is any number of times
-as_star : (n : ℕ) (t : Tree) (k : Part) → IsPart n (Opt (Plus t)) k → IsPart n (Star t) k
+as_star : (n : ℕ) (t : Tree) (k : Summary) → IsPart n (Opt (Plus t)) k → IsPart n (Star t) k
 as_star n t k h = record { word = h.word; empty = h.empty; first = h.first; last = h.last; positions = h.positions; closed = h.closed }
 
 -- the first part any number of times
-pub combine_star : (n : ℕ) (xs ys zs : List Part) (r j k : Part) (m m' : Table) → reverse xs ≡ r ∷ reverse ys → zs ≡ ys ++ k ∷ [] → HasRepeated r m j m' → m'.width ≡ m.width →
+pub combine_star : (n : ℕ) (xs ys zs : List Summary) (r j k : Summary) (m m' : Table) → reverse xs ≡ r ∷ reverse ys → zs ≡ ys ++ k ∷ [] → HasRepeated r m j m' → m'.width ≡ m.width →
     ((n : ℕ) (t : Tree) → IsPart n t j → IsPart n (Opt t) k) → HasCombined AnyTimes n xs m n zs m'
 combine_star n xs ys zs r j k m m' e z repeated w opt = λ ts h v. by ts (subst (AreParts n ts) e v.known) v.end v.marks
   where
@@ -266,7 +265,7 @@ combine_star n xs ys zs r j k m m' e z repeated w opt = λ ts h v. by ts (subst 
         let i = repeated n t us hr f in record { known = pushed n (Star t) us k ys zs z (as_star n t k (opt n (Plus t) i.0)) h; end = end ∙ sym w; marks = i.1 }
 
 -- the first part once or not
-pub combine_opt : (n : ℕ) (xs ys zs : List Part) (r k : Part) (m : Table) → reverse xs ≡ r ∷ reverse ys → zs ≡ ys ++ k ∷ [] →
+pub combine_opt : (n : ℕ) (xs ys zs : List Summary) (r k : Summary) (m : Table) → reverse xs ≡ r ∷ reverse ys → zs ≡ ys ++ k ∷ [] →
     ((n : ℕ) (t : Tree) → IsPart n t r → IsPart n (Opt t) k) → HasCombined AtMostOnce n xs m n zs m
 combine_opt n xs ys zs r k m e z opt = λ ts h v. by ts (subst (AreParts n ts) e v.known) v.end v.marks
   where
@@ -275,18 +274,18 @@ combine_opt n xs ys zs r k m e z opt = λ ts h v. by ts (subst (AreParts n ts) e
     by (t ∷ us) (hr, h) end f = record { known = pushed n (Opt t) us k ys zs z (opt n t hr) h; end = end; marks = f }
 
 -- enough parts
-pub enough_parts : (count n : ℕ) (xs : List Part) (m : Table) → CanCombine count n xs m → count ≤ length xs
+pub enough_parts : (count n : ℕ) (xs : List Summary) (m : Table) → CanCombine count n xs m → count ≤ length xs
 enough_parts count n xs m h = let e = count_parts n h.trees (reverse xs) h.evaluated.known in let f = h.many in omega (arith, length-reverse xs)
 
 -- a node that is read
-pub read_on : (ns : List Node) (x : Node) (n k : ℕ) (xs ys : List Part) (m m' : Table) → CanRead ns n xs m → get_or ns 0 NoWord ≡ x → HasCombined x n xs m k ys m' → IsEvaluated (trees ns) k ys m'
+pub read_on : (ns : List Node) (x : Node) (n k : ℕ) (xs ys : List Summary) (m m' : Table) → CanRead ns n xs m → get_or ns 0 NoWord ≡ x → HasCombined x n xs m k ys m' → IsEvaluated (trees ns) k ys m'
 read_on [] x n k xs ys m m' h e c = absurd (let s : 0 < 0 = h.some in omega arith)
 read_on (y ∷ ns) x n k xs ys m m' h e c =
     let f : arity y ≤ length (trees ns) = h.notation.0 in
     subst (λ z. IsEvaluated (built z (trees ns)) k ys m') (sym e) (c (trees ns) (subst (λ z. arity z ≤ length (trees ns)) e f) h.behind)
 
 -- there is a number left for a position
-pub position_left : (ns : List Node) (n : ℕ) (xs : List Part) (m : Table) → CanRead ns n xs m → 1 ≤ n
+pub position_left : (ns : List Node) (n : ℕ) (xs : List Summary) (m : Table) → CanRead ns n xs m → 1 ≤ n
 position_left [] n xs m h = absurd (let s : 0 < 0 = h.some in omega arith)
 position_left (y ∷ ns) n xs m h =
     let e : positions_among (trees ns) ≡ length (letters ns) = positions_counted ns h.notation.1 in

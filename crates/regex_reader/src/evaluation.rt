@@ -7,7 +7,7 @@ ghost use Rattle.expression_theory.specs.Expression.{Tree, Opt};
 ghost use Rattle.regex_reader.specs.Marks.{widest, Table, is_marked};
 
 use crate::marks::Marks;
-use crate::parts::{Part, bare, behind, either, have_words, one_position};
+use crate::parts::{Part, behind, either, have_words};
 use crate::polish::Node;
 use std::alloc::Global;
 use syn_words::Memory;
@@ -36,7 +36,7 @@ fn read_bare(parts: &mut Vec<Part>, has_empty: bool) -> Result<(), Memory>
         → HasCombined
         (if has_empty then notation.EmptyWord else notation.NoWord) n parts.old.items table n parts.new.items table) }
 {
-    let part = bare(*parts.allocator(), has_empty, 0);
+    let part = Part::bare(*parts.allocator(), has_empty, 0);
     parts.push(part)?;
     Ok(())
 }
@@ -47,7 +47,7 @@ fn read_position(parts: &mut Vec<Part>, position: u32) -> Result<(), Memory>
         → HasCombined (notation.Symbol a)
         (position + 1) parts.old.items table position parts.new.items table) }
 {
-    let part = one_position(*parts.allocator(), position)?;
+    let part = Part::one_position(*parts.allocator(), position)?;
     parts.push(part)?;
     Ok(())
 }
@@ -77,11 +77,11 @@ fn join(
     ensures width { marks.new.width ≡ marks.old.width }
 {
     if !have_words(&left, &right) {
-        let positions = left.positions + right.positions;
+        let positions = left.positions() + right.positions();
         marks.clear_rows(position, position + positions);
-        return Ok(bare(alloc, false, positions));
+        return Ok(Part::bare(alloc, false, positions));
     }
-    marks.add_pairs(&left.last, &right.first);
+    marks.add_pairs(left.last(), right.first());
     let part = behind(left, right)?;
     Ok(part)
 }
@@ -105,24 +105,17 @@ fn repeated(part: Part, marks: &mut Marks) -> Part
     ensures repeated { HasRepeated part marks.old result marks.new }
     ensures width { marks.new.width ≡ marks.old.width }
 {
-    if !part.is_closed {
-        marks.add_pairs(&part.last, &part.first);
+    if !part.is_closed() {
+        marks.add_pairs(part.last(), part.first());
     }
-    Part {
-        is_closed: true,
-        ..part
-    }
+    part.closed()
 }
 
 /// The part once or not.
 fn optional(part: Part) -> Part
     ensures { (n : ℕ) (t : Tree) → IsPart n t part → IsPart n (Opt t) result }
 {
-    Part {
-        has_word: true,
-        has_empty: true,
-        ..part
-    }
+    part.with_empty()
 }
 
 /// Reads `*`.

@@ -129,15 +129,15 @@ fn build(
     requires few { letters ≤ 60 }
     requires width { marks.now.width ≡ length positions.now + 1 }
     requires narrow { marks.now.width ≤ widest }
-    requires last { All (λ p. p < length positions.now + 1) part.now.last.items }
+    requires last { All (λ p. p < length positions.now + 1) part.now.last }
     requires letters { All (λ a. a < letters) positions.now }
     ensures { IfOk result
-        (IsBuilt part.now.has_empty part.now.last.items marks.now positions.now letters) }
+        (IsBuilt part.now.has_empty part.now.last marks.now positions.now letters) }
 {
     let mut nfa = Nfa::new(alloc, positions.len() as u32 + 1, letters)?;
     nfa.set_initial(0);
-    set_final_if(&mut nfa, part.has_empty, 0);
-    set_finals(&mut nfa, &part.last);
+    set_final_if(&mut nfa, part.has_empty(), 0);
+    set_finals(&mut nfa, part.last());
     add_rows(&mut nfa, marks, positions)?;
     Ok(nfa)
 }
@@ -160,7 +160,7 @@ pub fn positions(alloc: Global, expr: &Expr, letters: u32) -> Result<Nfa, Memory
     let positions = position_letters(alloc, &nodes)?;
     let mut marks = Marks::new(alloc, positions.len() + 1)?;
     let part = evaluate(alloc, &nodes, &mut marks)?;
-    marks.add_row(0, &part.first);
+    marks.add_row(0, part.first());
     let nfa = build(alloc, &part, &marks, &positions, letters)?;
     Ok(nfa)
 }
