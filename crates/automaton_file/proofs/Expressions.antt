@@ -3,7 +3,7 @@ use Rattle.std.proofs.Common.{◌≡◌, ◌<◌, ℕ, zero, suc, List, refl, sy
 use Rattle.std.specs.Prelude.{◌≤◌, Bool, not, ◌&&◌, ◌||◌, ◌==◌, is_none, Option, Some, None, length, ◌⊎◌}
 use Rattle.std.specs.Option.{option_or}
 use Rattle.std.proofs.lemmas.Bool.{and_parts, and_from, not-true, not_from_false, eq-eqb, eqb-true, cases_lt}
-use Rattle.expression_theory.specs.Scan.{Class, FaultKind, classes, failing_at, due_from, depth, IsAccepted, IsFault, SpellsTree}
+use Rattle.expression_theory.specs.Scan.{FaultKind, classes, failing_at, due_from, depth, IsAccepted, IsFault, SpellsTree}
 use Rattle.expression_theory.proofs.Faults.{accepted_or_fault}
 use Rattle.automaton_file.specs.declared.sources.Wrong.TheVariants as wrong
 use Rattle.automaton_file.specs.LineText.{fields, behind_first}
@@ -15,6 +15,7 @@ use Rattle.regex_reader.specs.declared.fault.ExprFault.{ExprFault}
 use Rattle.regex_reader.specs.declared.fault.ExprFault.TheVariants as expr
 use Rattle.automaton_file.specs.declared.faults.LineFault.{LineFault}
 use Rattle.automaton_file.specs.Reading.{IsRaised, IsLineFault}
+use Rattle.expression_theory.specs.declared.signs.Class.{Class}
 
 is_none_none : (o : Option FaultKind) → is_none o ≡ true → o ≡ None
 is_none_none None e = refl

@@ -6,9 +6,11 @@ use Rattle.std.proofs.lemmas.List.Elements.{All-nil, All-cons, All-append}
 use Rattle.std.proofs.lemmas.Bool.Decides.{Decides-ltb}
 use Rattle.expression_theory.specs.Expression.{Tree}
 use Rattle.expression_theory.specs.Positions.{positions}
-use Rattle.expression_theory.specs.Grammar.{Leaf, NoWord, EmptyWord, Symbol, leaf_tree, Quantifier, AnyTimes, OnceOrMore, AtMostOnce, applied, Sign, Operand, Bar, Postfix, Open, Close, Level, Atom, Piece, Sequence, Union, Spells, operand, inside, atom, postfix, one_piece, next_piece, one_sequence, next_sequence}
+use Rattle.expression_theory.specs.Grammar.{Leaf, leaf_tree, Quantifier, applied, Sign, Operand, Bar, Postfix, Open, Close, Level, Atom, Piece, Sequence, Union, Spells, operand, inside, atom, postfix, one_piece, next_piece, one_sequence, next_sequence}
 use Rattle.expression_theory.specs.Scan.{Class, Skipped, Unknown, Good, signs_in, letter_class, sign_class, class_of, classes, is_lower_case}
 use Rattle.expression_theory.proofs.Reading.{signs_append}
+use Rattle.expression_theory.specs.declared.signs.Leaf.TheVariants as leaf
+use Rattle.expression_theory.specs.declared.signs.Quantifier.TheVariants as quantifier
 
 -- a search that finds the letter, or does not
 abbrev pub searched : List ℕ → ℕ → Option ℕ
@@ -19,17 +21,17 @@ searched letters byte =
 -- the class of a letter that was searched
 abbrev pub class_at : Option ℕ → Class
 class_at None = Unknown
-class_at (Some place) = Good (Operand (Symbol place))
+class_at (Some place) = Good (Operand (leaf.Letter place))
 
 class_searched : (letters : List ℕ) (byte : ℕ) → class_at (searched letters byte) ≡ letter_class letters byte
 class_searched letters byte = let place = position_or_len (λ a. a == byte) letters in by (nat_lt place (length letters)) place
   where
-    by : (b : Bool) (place : ℕ) → class_at (cond b (Some place) None) ≡ cond b (Good (Operand (Symbol place))) Unknown
+    by : (b : Bool) (place : ℕ) → class_at (cond b (Some place) None) ≡ cond b (Good (Operand (leaf.Letter place))) Unknown
     by true place = refl
     by false place = refl
 
 -- a letter that was found
-pub found_class : (letters : List ℕ) (byte place : ℕ) → searched letters byte ≡ Some place → Good (Operand (Symbol place)) ≡ letter_class letters byte
+pub found_class : (letters : List ℕ) (byte place : ℕ) → searched letters byte ≡ Some place → Good (Operand (leaf.Letter place)) ≡ letter_class letters byte
 found_class letters byte place e = sym (ap class_at e) ∙ class_searched letters byte
 
 -- a letter that was not found
@@ -39,28 +41,28 @@ lost_class letters byte e = sym (ap class_at e) ∙ class_searched letters byte
 -- the letters among the signs
 abbrev pub symbols : List Sign → List ℕ
 symbols [] = []
-symbols (Operand (Symbol a) ∷ w) = a ∷ symbols w
+symbols (Operand (leaf.Letter a) ∷ w) = a ∷ symbols w
 symbols (x ∷ w) = symbols w
 
 symbols_append : (u v : List Sign) → symbols (u ++ v) ≡ symbols u ++ symbols v
 symbols_append [] v = refl
-symbols_append (Operand NoWord ∷ u) v = symbols_append u v
-symbols_append (Operand EmptyWord ∷ u) v = symbols_append u v
-symbols_append (Operand (Symbol a) ∷ u) v = ap (λ w. a ∷ w) (symbols_append u v)
+symbols_append (Operand leaf.Zero ∷ u) v = symbols_append u v
+symbols_append (Operand leaf.One ∷ u) v = symbols_append u v
+symbols_append (Operand (leaf.Letter a) ∷ u) v = ap (λ w. a ∷ w) (symbols_append u v)
 symbols_append (Bar ∷ u) v = symbols_append u v
 symbols_append (Postfix m ∷ u) v = symbols_append u v
 symbols_append (Open ∷ u) v = symbols_append u v
 symbols_append (Close ∷ u) v = symbols_append u v
 
 leaf_positions : (x : Leaf) → positions (leaf_tree x) ≡ symbols (Operand x ∷ [])
-leaf_positions NoWord = refl
-leaf_positions EmptyWord = refl
-leaf_positions (Symbol a) = refl
+leaf_positions leaf.Zero = refl
+leaf_positions leaf.One = refl
+leaf_positions (leaf.Letter a) = refl
 
 applied_positions : (m : Quantifier) (t : Tree) → positions (applied m t) ≡ positions t
-applied_positions AnyTimes t = refl
-applied_positions OnceOrMore t = refl
-applied_positions AtMostOnce t = refl
+applied_positions quantifier.Star t = refl
+applied_positions quantifier.Plus t = refl
+applied_positions quantifier.Opt t = refl
 
 letters_spelt : (l : Level) (w : List Sign) (t : Tree) → Spells l w t → positions t ≡ symbols w
 letters_spelt l w t (operand {x = x}) = leaf_positions x
@@ -86,12 +88,12 @@ either_class P false c d h k = k
 sign_letters : (byte : ℕ) → letters_in (sign_class byte) ≡ []
 sign_letters byte =
     no ((byte == 32) || (byte == 9)) Skipped _ refl
-    (no (byte == 48) (Good (Operand NoWord)) _ refl
-    (no (byte == 49) (Good (Operand EmptyWord)) _ refl
+    (no (byte == 48) (Good (Operand leaf.Zero)) _ refl
+    (no (byte == 49) (Good (Operand leaf.One)) _ refl
     (no (byte == 124) (Good Bar) _ refl
-    (no (byte == 42) (Good (Postfix AnyTimes)) _ refl
-    (no (byte == 43) (Good (Postfix OnceOrMore)) _ refl
-    (no (byte == 63) (Good (Postfix AtMostOnce)) _ refl
+    (no (byte == 42) (Good (Postfix quantifier.Star)) _ refl
+    (no (byte == 43) (Good (Postfix quantifier.Plus)) _ refl
+    (no (byte == 63) (Good (Postfix quantifier.Opt)) _ refl
     (no (byte == 40) (Good Open) _ refl
     (no (byte == 41) (Good Close) _ refl refl))))))))
   where
@@ -103,7 +105,7 @@ class_letters letters byte =
     let place = position_or_len (λ a. a == byte) letters in
     let none = All-nil (λ a. a < length letters) in
     either_class (All (λ a. a < length letters)) (is_lower_case byte) (letter_class letters byte) (sign_class byte)
-    (λ e. either_class (All (λ a. a < length letters)) (nat_lt place (length letters)) (Good (Operand (Symbol place))) Unknown
+    (λ e. either_class (All (λ a. a < length letters)) (nat_lt place (length letters)) (Good (Operand (leaf.Letter place))) Unknown
     (λ f. All-cons (λ a. a < length letters) place [] ((Decides-ltb place (length letters)).0 f) none) none)
     (subst (All (λ a. a < length letters)) (sym (sign_letters byte)) none)
 

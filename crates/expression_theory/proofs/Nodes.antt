@@ -4,8 +4,10 @@ use Rattle.std.proofs.Common.{length, length-append, ◌≤◌}
 use Rattle.std.proofs.lemmas.List.{append-nil}
 use Rattle.expression_theory.specs.Positions.{positions}
 use Rattle.expression_theory.specs.Expression.{Tree, Zero, One, Letter, Or, Cat, Star, Plus, Opt, nodes}
-use Rattle.expression_theory.specs.Grammar.{Leaf, NoWord, EmptyWord, Symbol, leaf_tree, Quantifier, AnyTimes, OnceOrMore, AtMostOnce, applied, Sign, Operand, Bar, Postfix, Open, Close, Level, Atom, Piece, Sequence, Union, Spells, operand, inside, atom, postfix, one_piece, next_piece, one_sequence, next_sequence}
+use Rattle.expression_theory.specs.Grammar.{Leaf, leaf_tree, Quantifier, applied, Sign, Operand, Bar, Postfix, Open, Close, Level, Atom, Piece, Sequence, Union, Spells, operand, inside, atom, postfix, one_piece, next_piece, one_sequence, next_sequence}
 use Rattle.expression_theory.specs.Scan.{Class, Skipped, Unknown, Strange, Good, signs_in, due_by, cost, nodes_from}
+use Rattle.expression_theory.specs.declared.signs.Leaf.TheVariants as leaf
+use Rattle.expression_theory.specs.declared.signs.Quantifier.TheVariants as quantifier
 
 -- the count over signs alone
 abbrev pub counted : Bool → List Sign → ℕ
@@ -25,9 +27,9 @@ abbrev pub Adds : List Sign → Tree → Type 0
 Adds w t = (d : Bool) (rest : List Sign) → counted d (w ++ rest) ≡ nodes t + cond d 0 1 + counted false rest
 
 leaf_node : (x : Leaf) → nodes (leaf_tree x) ≡ 1
-leaf_node NoWord = refl
-leaf_node EmptyWord = refl
-leaf_node (Symbol a) = refl
+leaf_node leaf.Zero = refl
+leaf_node leaf.One = refl
+leaf_node (leaf.Letter a) = refl
 
 adds_operand : (x : Leaf) → Adds (Operand x ∷ []) (leaf_tree x)
 adds_operand x true rest = let e = leaf_node x in omega arith
@@ -38,9 +40,9 @@ adds_inside w t h true rest = let e = h true (Close ∷ rest) in let f = ap (cou
 adds_inside w t h false rest = let e = h true (Close ∷ rest) in let f = ap (counted true) (append_assoc w (Close ∷ []) rest) in omega arith
 
 nodes_applied : (m : Quantifier) (t : Tree) → nodes (applied m t) ≡ nodes t + 1
-nodes_applied AnyTimes t = refl
-nodes_applied OnceOrMore t = refl
-nodes_applied AtMostOnce t = refl
+nodes_applied quantifier.Star t = refl
+nodes_applied quantifier.Plus t = refl
+nodes_applied quantifier.Opt t = refl
 
 adds_postfix : (w : List Sign) (t : Tree) (m : Quantifier) → Adds w t → Adds (w ++ Postfix m ∷ []) (applied m t)
 adds_postfix w t m h d rest =

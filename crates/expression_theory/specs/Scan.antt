@@ -3,32 +3,31 @@
 use Rattle.std.specs.Prelude.{◌≡◌, ℕ, ◌+◌, ◌-◌, ◌<◌, Bool, true, false, cond, ◌&&◌, ◌||◌, ◌==◌, ◌⊎◌, nat_lt, nat_le, Option, Some, None, List, [], ◌∷◌, length, take, map, slice_index_or}
 use Rattle.std.specs.List.{position_or_len}
 use Rattle.expression_theory.specs.Expression.{Tree, most_nodes}
-use Rattle.expression_theory.specs.Grammar.{NoWord, EmptyWord, Symbol, AnyTimes, OnceOrMore, AtMostOnce, Sign, Operand, Bar, Postfix, Open, Close, Spells, Union}
+use Rattle.expression_theory.specs.Grammar.{Sign, Operand, Bar, Postfix, Open, Close, Spells, Union}
+use Rattle.expression_theory.specs.declared.signs.Leaf.TheVariants as leaf
+use Rattle.expression_theory.specs.declared.signs.Quantifier.TheVariants as quantifier
 
 -- what a byte is: a space or tab, a lower-case letter that is not of the alphabet, no sign, or a
 -- sign
-pub data Class : Type 0 where
-  Skipped : Class
-  Unknown : Class
-  Strange : Class
-  Good : (s : Sign) → Class
+pub use Rattle.expression_theory.specs.declared.signs.Class.{Class}
+pub use Rattle.expression_theory.specs.declared.signs.Class.TheVariants.{Skipped, Unknown, Strange, Good}
 
 -- the number of a letter is its place in the alphabet
 abbrev pub letter_class : List ℕ → ℕ → Class
 letter_class letters byte =
     let place = position_or_len (λ a. a == byte) letters in
-    cond (nat_lt place (length letters)) (Good (Operand (Symbol place))) Unknown
+    cond (nat_lt place (length letters)) (Good (Operand (leaf.Letter place))) Unknown
 
 -- a byte that is no lower-case letter
 abbrev pub sign_class : ℕ → Class
 sign_class byte =
     cond ((byte == 32) || (byte == 9)) Skipped  -- space and tab
-    (cond (byte == 48) (Good (Operand NoWord))  -- 0
-    (cond (byte == 49) (Good (Operand EmptyWord))  -- 1
+    (cond (byte == 48) (Good (Operand leaf.Zero))  -- 0
+    (cond (byte == 49) (Good (Operand leaf.One))  -- 1
     (cond (byte == 124) (Good Bar)  -- |
-    (cond (byte == 42) (Good (Postfix AnyTimes))  -- *
-    (cond (byte == 43) (Good (Postfix OnceOrMore))  -- +
-    (cond (byte == 63) (Good (Postfix AtMostOnce))  -- ?
+    (cond (byte == 42) (Good (Postfix quantifier.Star))  -- *
+    (cond (byte == 43) (Good (Postfix quantifier.Plus))  -- +
+    (cond (byte == 63) (Good (Postfix quantifier.Opt))  -- ?
     (cond (byte == 40) (Good Open)  -- (
     (cond (byte == 41) (Good Close)  -- )
     Strange))))))))

@@ -2,6 +2,11 @@
 #![tactic(auto)]
 
 pub mod examples;
+mod notation;
+mod signs;
+
+pub use notation::Node;
+pub use signs::{Class, Leaf, Quantifier, Sign};
 
 ghost use Rattle.std.specs.Prelude.{◌≡◌, ◌↔◌, ◌⊎◌, ℕ, true, IsTrue, Some, List, [], ◌∷◌};
 ghost use Rattle.language_theory.specs.Automaton.{Automaton, Accepts};

@@ -5,7 +5,7 @@ use Rattle.expression_theory.specs.Expression.{Tree, nodes, most_nodes}
 use Rattle.expression_theory.specs.Positions.{IsWithin}
 use Rattle.expression_theory.specs.Grammar.{Spells, Union}
 use Rattle.expression_theory.specs.Frames as frames
-use Rattle.expression_theory.specs.Scan.{Class, Strange, classes, signs_in, depth_by, cost, nodes_from, IsAccepted, SpellsTree}
+use Rattle.expression_theory.specs.Scan.{classes, signs_in, depth_by, cost, nodes_from, IsAccepted, SpellsTree}
 use Rattle.expression_theory.proofs.Counting.{IsScanned, scanned_more, scanned_all}
 use Rattle.expression_theory.proofs.Reading.{run_more}
 use Rattle.expression_theory.proofs.Sound.{read_spells}
@@ -17,6 +17,8 @@ use Rattle.regex_reader.specs.declared.frames.Frame.{Frame}
 use Rattle.regex_reader.specs.declared.reader.Reader.{Reader}
 use Rattle.regex_reader.specs.Expressions.{tree_of, tree_in}
 use Rattle.regex_reader.specs.Readers.{is_due, frame_of, frames_of, HasRead, IsReader}
+use Rattle.expression_theory.specs.declared.signs.Class.{Class}
+use Rattle.expression_theory.specs.declared.signs.Class.TheVariants.{Strange}
 
 -- what is known of a reader after i bytes
 pub record IsBetween (cs : List Class) (i : ℕ) (r : Reader) : Type 0 where

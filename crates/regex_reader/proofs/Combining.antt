@@ -7,7 +7,7 @@ use Rattle.regex_reader.proofs.Tables.{or_assoc}
 use Rattle.expression_theory.specs.Expression.{Tree, Or, Cat, Star, Plus, Opt, Means}
 use Rattle.expression_theory.specs.Positions.{positions, numbered, Follows}
 use Rattle.expression_theory.specs.FirstLast.{has_word, has_empty, firsts, lasts, has, follows}
-use Rattle.expression_theory.specs.Polish.{Node, NoWord, Union, Product, AnyTimes, OnceOrMore, AtMostOnce, built, arity, trees, letters, positions_among, follows_among}
+use Rattle.expression_theory.specs.Polish.{built, arity, trees, letters, positions_among, follows_among}
 use Rattle.expression_theory.proofs.Exchange.{between}
 use Rattle.expression_theory.proofs.Polish.{letters_append, positions_counted}
 use Rattle.expression_theory.proofs.FirstLast.{has_word_decides, has_empty_decides, follows_decide}
@@ -15,6 +15,8 @@ use Rattle.expression_theory.proofs.Sizes.{firsts_below, lasts_below}
 use Rattle.expression_theory.proofs.Exchange.{ends_at}
 use Rattle.regex_reader.specs.Marks.{Table, is_marked, IsAdded, IsCleared}
 use Rattle.regex_reader.specs.Parts.{IsPart, AreParts, IsFollowing, IsEvaluated, CanCombine, HasCombined, CanJoin, HasJoined, CanRepeat, HasRepeated, CanRead, Summary}
+use Rattle.expression_theory.specs.declared.notation.Node.TheVariants as node
+use Rattle.expression_theory.specs.declared.notation.Node.{Node}
 
 either_way : (b : Bool) → (b ≡ true) ⊎ (b ≡ false)
 either_way true = inl refl
@@ -213,10 +215,10 @@ or_marks n s t ts m f p q a b =
 -- the union of the first two parts
 pub combine_or : (n : ℕ) (xs ys zs : List Summary) (l r k : Summary) (m : Table) → reverse xs ≡ l ∷ (r ∷ reverse ys) → zs ≡ ys ++ k ∷ [] →
     k.has_word ≡ (l.has_word || r.has_word) → k.has_empty ≡ (l.has_empty || r.has_empty) → k.is_closed ≡ false → k.positions ≡ l.positions + r.positions →
-    k.first ≡ l.first ++ r.first → k.last ≡ l.last ++ r.last → HasCombined Union n xs m n zs m
+    k.first ≡ l.first ++ r.first → k.last ≡ l.last ++ r.last → HasCombined node.Or n xs m n zs m
 combine_or n xs ys zs l r k m e z kw ke kc ks kf kl = λ ts h v. by ts (subst (AreParts n ts) e v.known) v.end v.marks
   where
-    by : (ts : List Tree) → AreParts n ts (l ∷ (r ∷ reverse ys)) → n + positions_among ts ≡ m.width → IsFollowing n ts m → IsEvaluated (built Union ts) n zs m
+    by : (ts : List Tree) → AreParts n ts (l ∷ (r ∷ reverse ys)) → n + positions_among ts ≡ m.width → IsFollowing n ts m → IsEvaluated (built node.Or ts) n zs m
     by [] h end f = absurd h
     by (s ∷ []) (hl, h) end f = absurd h
     by (s ∷ (t ∷ us)) (hl, (hr, h)) end f = record {
@@ -227,10 +229,10 @@ combine_or n xs ys zs l r k m e z kw ke kc ks kf kl = λ ts h v. by ts (subst (A
 
 -- the concatenation of the first two parts
 pub combine_cat : (n : ℕ) (xs ys zs : List Summary) (l r k : Summary) (m m' : Table) → reverse xs ≡ l ∷ (r ∷ reverse ys) → zs ≡ ys ++ k ∷ [] → HasJoined n l r m k m' → m'.width ≡ m.width →
-    HasCombined Product n xs m n zs m'
+    HasCombined node.Cat n xs m n zs m'
 combine_cat n xs ys zs l r k m m' e z joined w = λ ts h v. by ts (subst (AreParts n ts) e v.known) v.end v.marks
   where
-    by : (ts : List Tree) → AreParts n ts (l ∷ (r ∷ reverse ys)) → n + positions_among ts ≡ m.width → IsFollowing n ts m → IsEvaluated (built Product ts) n zs m'
+    by : (ts : List Tree) → AreParts n ts (l ∷ (r ∷ reverse ys)) → n + positions_among ts ≡ m.width → IsFollowing n ts m → IsEvaluated (built node.Cat ts) n zs m'
     by [] h end f = absurd h
     by (s ∷ []) (hl, h) end f = absurd h
     by (s ∷ (t ∷ us)) (hl, (hr, h)) end f =
@@ -243,10 +245,10 @@ combine_cat n xs ys zs l r k m m' e z joined w = λ ts h v. by ts (subst (ArePar
 
 -- the first part once or more
 pub combine_plus : (n : ℕ) (xs ys zs : List Summary) (r k : Summary) (m m' : Table) → reverse xs ≡ r ∷ reverse ys → zs ≡ ys ++ k ∷ [] → HasRepeated r m k m' → m'.width ≡ m.width →
-    HasCombined OnceOrMore n xs m n zs m'
+    HasCombined node.Plus n xs m n zs m'
 combine_plus n xs ys zs r k m m' e z repeated w = λ ts h v. by ts (subst (AreParts n ts) e v.known) v.end v.marks
   where
-    by : (ts : List Tree) → AreParts n ts (r ∷ reverse ys) → n + positions_among ts ≡ m.width → IsFollowing n ts m → IsEvaluated (built OnceOrMore ts) n zs m'
+    by : (ts : List Tree) → AreParts n ts (r ∷ reverse ys) → n + positions_among ts ≡ m.width → IsFollowing n ts m → IsEvaluated (built node.Plus ts) n zs m'
     by [] h end f = absurd h
     by (t ∷ us) (hr, h) end f = let j = repeated n t us hr f in record { known = pushed n (Plus t) us k ys zs z j.0 h; end = end ∙ sym w; marks = j.1 }
 
@@ -256,20 +258,20 @@ as_star n t k h = record { word = h.word; empty = h.empty; first = h.first; last
 
 -- the first part any number of times
 pub combine_star : (n : ℕ) (xs ys zs : List Summary) (r j k : Summary) (m m' : Table) → reverse xs ≡ r ∷ reverse ys → zs ≡ ys ++ k ∷ [] → HasRepeated r m j m' → m'.width ≡ m.width →
-    ((n : ℕ) (t : Tree) → IsPart n t j → IsPart n (Opt t) k) → HasCombined AnyTimes n xs m n zs m'
+    ((n : ℕ) (t : Tree) → IsPart n t j → IsPart n (Opt t) k) → HasCombined node.Star n xs m n zs m'
 combine_star n xs ys zs r j k m m' e z repeated w opt = λ ts h v. by ts (subst (AreParts n ts) e v.known) v.end v.marks
   where
-    by : (ts : List Tree) → AreParts n ts (r ∷ reverse ys) → n + positions_among ts ≡ m.width → IsFollowing n ts m → IsEvaluated (built AnyTimes ts) n zs m'
+    by : (ts : List Tree) → AreParts n ts (r ∷ reverse ys) → n + positions_among ts ≡ m.width → IsFollowing n ts m → IsEvaluated (built node.Star ts) n zs m'
     by [] h end f = absurd h
     by (t ∷ us) (hr, h) end f =
         let i = repeated n t us hr f in record { known = pushed n (Star t) us k ys zs z (as_star n t k (opt n (Plus t) i.0)) h; end = end ∙ sym w; marks = i.1 }
 
 -- the first part once or not
 pub combine_opt : (n : ℕ) (xs ys zs : List Summary) (r k : Summary) (m : Table) → reverse xs ≡ r ∷ reverse ys → zs ≡ ys ++ k ∷ [] →
-    ((n : ℕ) (t : Tree) → IsPart n t r → IsPart n (Opt t) k) → HasCombined AtMostOnce n xs m n zs m
+    ((n : ℕ) (t : Tree) → IsPart n t r → IsPart n (Opt t) k) → HasCombined node.Opt n xs m n zs m
 combine_opt n xs ys zs r k m e z opt = λ ts h v. by ts (subst (AreParts n ts) e v.known) v.end v.marks
   where
-    by : (ts : List Tree) → AreParts n ts (r ∷ reverse ys) → n + positions_among ts ≡ m.width → IsFollowing n ts m → IsEvaluated (built AtMostOnce ts) n zs m
+    by : (ts : List Tree) → AreParts n ts (r ∷ reverse ys) → n + positions_among ts ≡ m.width → IsFollowing n ts m → IsEvaluated (built node.Opt ts) n zs m
     by [] h end f = absurd h
     by (t ∷ us) (hr, h) end f = record { known = pushed n (Opt t) us k ys zs z (opt n t hr) h; end = end; marks = f }
 
@@ -278,7 +280,7 @@ pub enough_parts : (count n : ℕ) (xs : List Summary) (m : Table) → CanCombin
 enough_parts count n xs m h = let e = count_parts n h.trees (reverse xs) h.evaluated.known in let f = h.many in omega (arith, length-reverse xs)
 
 -- a node that is read
-pub read_on : (ns : List Node) (x : Node) (n k : ℕ) (xs ys : List Summary) (m m' : Table) → CanRead ns n xs m → get_or ns 0 NoWord ≡ x → HasCombined x n xs m k ys m' → IsEvaluated (trees ns) k ys m'
+pub read_on : (ns : List Node) (x : Node) (n k : ℕ) (xs ys : List Summary) (m m' : Table) → CanRead ns n xs m → get_or ns 0 node.Zero ≡ x → HasCombined x n xs m k ys m' → IsEvaluated (trees ns) k ys m'
 read_on [] x n k xs ys m m' h e c = absurd (let s : 0 < 0 = h.some in omega arith)
 read_on (y ∷ ns) x n k xs ys m m' h e c =
     let f : arity y ≤ length (trees ns) = h.notation.0 in

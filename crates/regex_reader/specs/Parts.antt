@@ -4,8 +4,9 @@ use Rattle.std.specs.List.{All}
 use Rattle.expression_theory.specs.Expression.{Tree, Cat, Plus}
 use Rattle.expression_theory.specs.Positions.{positions, numbered}
 use Rattle.expression_theory.specs.FirstLast.{has_word, has_empty, firsts, lasts, has, follows}
-use Rattle.expression_theory.specs.Polish.{Node, built, arity, trees, IsNotation, letters, positions_among, follows_among}
+use Rattle.expression_theory.specs.Polish.{built, arity, trees, IsNotation, letters, positions_among, follows_among}
 use Rattle.regex_reader.specs.Marks.{widest, Table, is_marked}
+use Rattle.expression_theory.specs.declared.notation.Node.{Node}
 
 -- What is known of a part of an expression: whether it has a word, and the empty word; whether it is
 -- known that each position that can begin a word can follow each that can end one; how many positions

@@ -1,14 +1,13 @@
 //! What begins, ends and follows in an expression, from its nodes in Polish notation.
-ghost use Rattle.std.specs.Prelude.{◌≡◌, ℕ, false, if◌then◌else◌, ◌+◌, ◌≤◌, ◌<◌, ◌∷◌, [], ◌^◌, length, reverse, map, IfOk, OnOk};
+ghost use Rattle.std.specs.Prelude.{◌≡◌, ℕ, false, if◌then◌else◌, ◌+◌, ◌≤◌, ◌<◌, ◌∷◌, [], ◌^◌, length, reverse, IfOk, OnOk};
 ghost use Rattle.expression_theory.specs.Polish as notation;
-ghost use Rattle.regex_reader.specs.Notations.{node_of};
 ghost use Rattle.regex_reader.specs.Parts.{IsPart, IsFollowing, IsEvaluated, CanRead, CanCombine, HasCombined, CanJoin, HasJoined, CanRepeat, HasRepeated};
 ghost use Rattle.expression_theory.specs.Expression.{Tree, Opt};
 ghost use Rattle.regex_reader.specs.Marks.{widest, Table, is_marked};
 
 use crate::marks::Marks;
 use crate::parts::{Part, behind, either, have_words};
-use crate::polish::Node;
+use expression_theory::Node;
 use std::alloc::Global;
 use syn_words::Memory;
 
@@ -34,7 +33,7 @@ fn take_two(parts: &mut Vec<Part>) -> (Part, Part)
 fn read_bare(parts: &mut Vec<Part>, has_empty: bool) -> Result<(), Memory>
     ensures { OnOk result ((n : ℕ) (table : Table)
         → HasCombined
-        (if has_empty then notation.EmptyWord else notation.NoWord) n parts.old.items table n parts.new.items table) }
+        (if has_empty then Node.One else Node.Zero) n parts.old.items table n parts.new.items table) }
 {
     let part = Part::bare(*parts.allocator(), has_empty, 0);
     parts.push(part)?;
@@ -44,7 +43,7 @@ fn read_bare(parts: &mut Vec<Part>, has_empty: bool) -> Result<(), Memory>
 /// Reads a position whose number is given.
 fn read_position(parts: &mut Vec<Part>, position: u32) -> Result<(), Memory>
     ensures { OnOk result ((a : ℕ) (table : Table)
-        → HasCombined (notation.Symbol a)
+        → HasCombined (Node.Letter a)
         (position + 1) parts.old.items table position parts.new.items table) }
 {
     let part = Part::one_position(*parts.allocator(), position)?;
@@ -56,7 +55,7 @@ fn read_position(parts: &mut Vec<Part>, position: u32) -> Result<(), Memory>
 fn read_or(parts: &mut Vec<Part>, marks: &Marks, position: u32) -> Result<(), Memory>
     requires { CanCombine 2 position parts.old.items marks.now }
     ensures { OnOk result
-        (HasCombined notation.Union position parts.old.items marks.now position parts.new.items marks.now) }
+        (HasCombined Node.Or position parts.old.items marks.now position parts.new.items marks.now) }
 {
     let (left, right) = take_two(parts);
     let part = either(left, right)?;
@@ -90,7 +89,7 @@ fn join(
 fn read_cat(parts: &mut Vec<Part>, marks: &mut Marks, position: u32) -> Result<(), Memory>
     requires { CanCombine 2 position parts.old.items marks.old }
     ensures combined { OnOk result
-        (HasCombined notation.Product position parts.old.items marks.old position parts.new.items marks.new) }
+        (HasCombined Node.Cat position parts.old.items marks.old position parts.new.items marks.new) }
     ensures width { marks.new.width ≡ marks.old.width }
 {
     let (left, right) = take_two(parts);
@@ -122,7 +121,7 @@ fn optional(part: Part) -> Part
 fn read_star(parts: &mut Vec<Part>, marks: &mut Marks, position: u32) -> Result<(), Memory>
     requires { CanCombine 1 position parts.old.items marks.old }
     ensures combined { OnOk result
-        (HasCombined notation.AnyTimes position parts.old.items marks.old position parts.new.items marks.new) }
+        (HasCombined Node.Star position parts.old.items marks.old position parts.new.items marks.new) }
     ensures width { marks.new.width ≡ marks.old.width }
 {
     let part = take_one(parts);
@@ -136,7 +135,7 @@ fn read_star(parts: &mut Vec<Part>, marks: &mut Marks, position: u32) -> Result<
 fn read_plus(parts: &mut Vec<Part>, marks: &mut Marks, position: u32) -> Result<(), Memory>
     requires { CanCombine 1 position parts.old.items marks.old }
     ensures combined { OnOk result
-        (HasCombined notation.OnceOrMore position parts.old.items marks.old position parts.new.items marks.new) }
+        (HasCombined Node.Plus position parts.old.items marks.old position parts.new.items marks.new) }
     ensures width { marks.new.width ≡ marks.old.width }
 {
     let part = take_one(parts);
@@ -149,7 +148,7 @@ fn read_plus(parts: &mut Vec<Part>, marks: &mut Marks, position: u32) -> Result<
 fn read_opt(parts: &mut Vec<Part>, marks: &Marks, position: u32) -> Result<(), Memory>
     requires { CanCombine 1 position parts.old.items marks.now }
     ensures { OnOk result
-        (HasCombined notation.AtMostOnce position parts.old.items marks.now position parts.new.items marks.now) }
+        (HasCombined Node.Opt position parts.old.items marks.now position parts.new.items marks.now) }
 {
     let part = take_one(parts);
     let part = optional(part);
@@ -164,9 +163,9 @@ fn read_first(
     marks: &mut Marks,
     position: u32,
 ) -> Result<u32, Memory>
-    requires { CanRead (map node_of nodes.now) position parts.old.items marks.old }
+    requires { CanRead nodes.now position parts.old.items marks.old }
     ensures evaluated { IfOk result
-        (λ n. IsEvaluated (notation.trees (map node_of nodes.now)) n parts.new.items marks.new) }
+        (λ n. IsEvaluated (notation.trees nodes.now) n parts.new.items marks.new) }
     ensures width { marks.new.width ≡ marks.old.width }
 {
     match nodes[0] {
@@ -187,13 +186,13 @@ fn read_first(
 
 /// Reads all nodes, the last one first.
 fn read_all(nodes: &[Node], parts: &mut Vec<Part>, marks: &mut Marks) -> Result<(), Memory>
-    requires notation { notation.IsNotation (map node_of nodes.now) }
-    requires room { marks.old.width ≡ length (notation.letters (map node_of nodes.now)) + 1 }
+    requires notation { notation.IsNotation nodes.now }
+    requires room { marks.old.width ≡ length (notation.letters nodes.now) + 1 }
     requires narrow { marks.old.width ≤ widest }
     requires bare { (p q : ℕ) → is_marked marks.old p q ≡ false }
     requires none { parts.old.items ≡ [] }
     ensures evaluated { OnOk result
-        (IsEvaluated (notation.trees (map node_of nodes.now)) 1 parts.new.items marks.new) }
+        (IsEvaluated (notation.trees nodes.now) 1 parts.new.items marks.new) }
     ensures width { marks.new.width ≡ marks.old.width }
 {
     let mut position = marks.width() as u32;
@@ -208,14 +207,14 @@ fn read_all(nodes: &[Node], parts: &mut Vec<Part>, marks: &mut Marks) -> Result<
 
 /// What begins and ends in the expression whose Polish notation is given, and what follows in it.
 pub fn evaluate(alloc: Global, nodes: &[Node], marks: &mut Marks) -> Result<Part, Memory>
-    requires notation { notation.IsNotation (map node_of nodes.now) }
-    requires room { marks.old.width ≡ length (notation.letters (map node_of nodes.now)) + 1 }
+    requires notation { notation.IsNotation nodes.now }
+    requires room { marks.old.width ≡ length (notation.letters nodes.now) + 1 }
     requires narrow { marks.old.width ≤ widest }
     requires bare { (p q : ℕ) → is_marked marks.old p q ≡ false }
-    requires tree { (t : Tree) × (map node_of nodes.now ≡ notation.polish t) }
-    ensures part { IfOk result (λ r. (t : Tree) → map node_of nodes.now ≡ notation.polish t
+    requires tree { (t : Tree) × (nodes.now ≡ notation.polish t) }
+    ensures part { IfOk result (λ r. (t : Tree) → nodes.now ≡ notation.polish t
         → IsPart 1 t r) }
-    ensures marks { OnOk result ((t : Tree) → map node_of nodes.now ≡ notation.polish t
+    ensures marks { OnOk result ((t : Tree) → nodes.now ≡ notation.polish t
         → IsFollowing 1 (t ∷ []) marks.new) }
     ensures width { marks.new.width ≡ marks.old.width }
 {

@@ -1,5 +1,5 @@
 //! The position automaton (Glushkov).
-ghost use Rattle.std.specs.Prelude.{◌≡◌, ◌+◌, ◌++◌, ◌∷◌, [], ◌<◌, ◌≤◌, ◌&&◌, ◌==◌, ℕ, ◌↔◌, List, length, map, IfOk, OnOk};
+ghost use Rattle.std.specs.Prelude.{◌≡◌, ◌+◌, ◌++◌, ◌∷◌, [], ◌<◌, ◌≤◌, ◌&&◌, ◌==◌, ℕ, ◌↔◌, List, length, IfOk, OnOk};
 ghost use Rattle.std.specs.List.{All};
 ghost use Rattle.language_theory.specs.Automaton.{Automaton, Accepts};
 ghost use Rattle.syn_words.specs.Nfa.{IsSized};
@@ -8,7 +8,6 @@ ghost use Rattle.expression_theory.specs.Positions.{IsPositions, IsWithin};
 ghost use Rattle.expression_theory.specs.FirstLast.{has};
 ghost use Rattle.expression_theory.specs.Polish as notation;
 ghost use Rattle.regex_reader.specs.Expressions.{tree_of};
-ghost use Rattle.regex_reader.specs.Notations.{node_of};
 ghost use Rattle.regex_reader.specs.Marks.{widest, is_marked};
 ghost use Rattle.regex_reader.specs.Growth.{HasFinals, HasGrown, IsOneStep, IsRowStep, IsTableStep, IsBuilt};
 
@@ -16,14 +15,15 @@ use crate::Expr;
 use crate::evaluation::evaluate;
 use crate::marks::Marks;
 use crate::parts::Part;
-use crate::polish::{Node, polish};
+use crate::polish::polish;
+use expression_theory::Node;
 use std::alloc::Global;
 use syn_words::{Memory, Nfa};
 
 /// Appends the letter of a node, if it is one.
 fn push_letter(node: Node, letters: &mut Vec<u8>) -> Result<(), Memory>
     ensures { OnOk result
-        (letters.new.items ≡ letters.old.items ++ notation.letters (node_of node ∷ [])) }
+        (letters.new.items ≡ letters.old.items ++ notation.letters (node ∷ [])) }
 {
     if let Node::Letter(letter) = node {
         letters.push(letter)?;
@@ -33,7 +33,7 @@ fn push_letter(node: Node, letters: &mut Vec<u8>) -> Result<(), Memory>
 
 /// The letters at the positions, from the left.
 fn position_letters(alloc: Global, nodes: &[Node]) -> Result<Vec<u8>, Memory>
-    ensures { IfOk result (λ letters. letters.items ≡ notation.letters (map node_of nodes.now)) }
+    ensures { IfOk result (λ letters. letters.items ≡ notation.letters nodes.now) }
 {
     let mut letters = Vec::new(alloc);
     for node in nodes {
