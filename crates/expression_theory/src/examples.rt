@@ -1,11 +1,12 @@
 //! Worked examples over the letters a = 0 and b = 1, in the alphabet that is written `ab`.
 
-ghost use Rattle.std.specs.Prelude.{◌≡◌, ◌↔◌, ◌⊎◌, ◌+◌, ℕ, true, List, [], ◌∷◌, codes, replicate};
+ghost use Rattle.std.specs.Prelude.{◌≡◌, ◌↔◌, ◌⊎◌, ◌+◌, ℕ, true, Some, List, [], ◌∷◌, codes, replicate};
 ghost use Rattle.language_theory.specs.Examples.{IsAbStar};
 ghost use Rattle.expression_theory.specs.Expression.{Tree, Zero, One, Letter, Or, Cat, Star, Plus, Opt, Means, nodes, most_nodes};
 ghost use Rattle.expression_theory.specs.Positions.{PositionWord, Begins, Follows, Ends, numbered, IsPositions};
-ghost use Rattle.expression_theory.specs.FirstLast.{firsts, lasts, follows};
-ghost use Rattle.expression_theory.specs.Scan.{classes, nodes_from, most_open, Unexpected, UnknownLetter, TooDeep, TooLarge, IsAccepted, IsFault, SpellsTree};
+ghost use Rattle.expression_theory.specs.FirstLast.{has_empty, firsts, lasts};
+ghost use Rattle.expression_theory.specs.Frames.{tree_read};
+ghost use Rattle.expression_theory.specs.Scan.{classes, signs_in, nodes_from, most_open, Unexpected, UnknownLetter, TooDeep, TooLarge, IsAccepted, IsFault, SpellsTree};
 ghost use Rattle.expression_theory.specs.Examples.{ab_star_positions};
 
 /// The text `(ab)*` spells the star of a concatenation, and is accepted.
@@ -31,6 +32,8 @@ pub fn postfix_signs_bind_tightest()
     ensures tab { SpellsTree (classes (codes "ab") (codes "a\tb")) (Cat (Letter 0) (Letter 1)) }
     ensures products { SpellsTree (classes (codes "ab") (codes "abb"))
         (Cat (Cat (Letter 0) (Letter 1)) (Letter 1)) }
+    ensures read { tree_read (signs_in (classes (codes "ab") (codes "abb")))
+        ≡ Some (Cat (Cat (Letter 0) (Letter 1)) (Letter 1)) }
     ensures unions { SpellsTree (classes (codes "ab") (codes "a|b|a"))
         (Or (Or (Letter 0) (Letter 1)) (Letter 0)) }
     ensures postfixes { SpellsTree (classes (codes "ab") (codes "a+?")) (Opt (Plus (Letter 0))) }
@@ -63,6 +66,7 @@ pub fn limits_are_exact()
 /// The words of (ab)*, a+, a? and 0.
 pub fn words_of_expressions()
     ensures empty { Means (Star (Cat (Letter 0) (Letter 1))) [] }
+    ensures computed { has_empty (Star (Cat (Letter 0) (Letter 1))) ≡ true }
     ensures twice { Means (Star (Cat (Letter 0) (Letter 1))) (0 ∷ 1 ∷ 0 ∷ 1 ∷ []) }
     ensures half { ¬ Means (Star (Cat (Letter 0) (Letter 1))) (0 ∷ []) }
     ensures once { Means (Plus (Letter 0)) (0 ∷ []) }
