@@ -1,5 +1,5 @@
--- The position automaton of an expression (Glushkov). A position is an occurrence of a letter in the
--- expression; the positions are numbered from 1, from the left.
+-- The position automaton of an expression (Glushkov). A position is an occurrence of a letter in
+-- the expression; the positions are numbered from 1, from the left.
 use Rattle.std.specs.Prelude.{◌≡◌, ℕ, zero, suc, ◌+◌, ◌-◌, ◌<◌, ◌≤◌, IsTrue, ◌↔◌, List, [], ◌∷◌, ◌++◌, length, slice_index, All}
 use Rattle.language_theory.specs.Automaton.{Automaton, is_initial, is_final, has_step}
 use Rattle.expression_theory.specs.Expression.{Tree, Zero, One, Letter, Or, Cat, Star, Plus, Opt, Means, nodes, most_nodes}

@@ -97,8 +97,8 @@ pub fn ab_star_has_three_positions()
     ensures { IsPositions (Star (Cat (Letter 0) (Letter 1))) 2 ab_star_positions }
 {}
 
-/// In `a0|b` the position of a begins no word, follows no position, is followed by none, and ends no word.
-/// The position of b begins a word and ends one.
+/// In `a0|b` the position of a begins no word, follows no position, is followed by none, and ends no
+/// word. The position of b begins a word and ends one.
 pub fn a_dead_position_has_no_step()
     ensures text { SpellsTree (classes (codes "ab") (codes "a0|b"))
         (Or (Cat (Letter 0) Zero) (Letter 1)) }

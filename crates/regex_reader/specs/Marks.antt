@@ -2,8 +2,8 @@
 use Rattle.std.specs.Prelude.{◌≡◌, ℕ, ◌+◌, ◌*◌, ◌<◌, ◌≤◌, Bool, false, ◌||◌, List, slice_index_or}
 use Rattle.expression_theory.specs.Expression.{most_nodes}
 
--- the greatest width of a table: an expression has no more letters than nodes, and before them there
--- is the start
+-- the greatest width of a table: an expression has no more letters than nodes, and before them
+-- there is the start
 abbrev pub widest : ℕ
 widest = most_nodes + 1
 

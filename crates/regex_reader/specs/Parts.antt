@@ -8,9 +8,9 @@ use Rattle.expression_theory.specs.Polish.{built, arity, trees, IsNotation, lett
 use Rattle.regex_reader.specs.Marks.{widest, Table, is_marked}
 use Rattle.expression_theory.specs.declared.notation.Node.{Node}
 
--- What is known of a part of an expression: whether it has a word, and the empty word; whether it is
--- known that each position that can begin a word can follow each that can end one; how many positions
--- it has; and which of them can begin and end a word.
+-- What is known of a part of an expression: whether it has a word, and the empty word; whether it
+-- is known that each position that can begin a word can follow each that can end one; how many
+-- positions it has; and which of them can begin and end a word.
 pub record Summary : Type 0 where
   pub has_word : Bool
   pub has_empty : Bool
