@@ -1,9 +1,8 @@
 -- The grammar of expressions, over signs.
-use Rattle.std.specs.Prelude.{ℕ, List, [], ◌∷◌, ◌++◌}
+use Rattle.std.specs.Prelude.{List, [], ◌∷◌, ◌++◌}
 use Rattle.expression_theory.specs.Expression.{Tree, Zero, One, Letter, Or, Cat, Star, Plus, Opt}
 use Rattle.expression_theory.specs.declared.signs.Leaf.TheVariants as leaf
 use Rattle.expression_theory.specs.declared.signs.Quantifier.TheVariants as quantifier
-
 -- `0`, `1` and the letters; `*`, `+` and `?`; and all signs: `|` is a bar, and parentheses open and
 -- close
 pub use Rattle.expression_theory.specs.declared.signs.Leaf.{Leaf}

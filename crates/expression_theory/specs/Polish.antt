@@ -4,7 +4,6 @@ use Rattle.expression_theory.specs.Expression.{Tree, Zero, One, Letter, Or, Cat,
 use Rattle.expression_theory.specs.Positions.{positions, numbered}
 use Rattle.expression_theory.specs.FirstLast.{follows}
 use Rattle.expression_theory.specs.declared.notation.Node.TheVariants as node
-
 -- a node without its parts
 pub use Rattle.expression_theory.specs.declared.notation.Node.{Node}
 

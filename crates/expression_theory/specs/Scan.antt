@@ -6,7 +6,6 @@ use Rattle.expression_theory.specs.Expression.{Tree, most_nodes}
 use Rattle.expression_theory.specs.Grammar.{Sign, Operand, Bar, Postfix, Open, Close, Spells, Union}
 use Rattle.expression_theory.specs.declared.signs.Leaf.TheVariants as leaf
 use Rattle.expression_theory.specs.declared.signs.Quantifier.TheVariants as quantifier
-
 -- what a byte is: a space or tab, a lower-case letter that is not of the alphabet, no sign, or a
 -- sign
 pub use Rattle.expression_theory.specs.declared.signs.Class.{Class}

@@ -1,8 +1,8 @@
 -- Nodes that are read from the last to the first.
-use Rattle.std.proofs.Common.{◌≡◌, ℕ, zero, suc, ◌+◌, ◌-◌, ◌<◌, ◌≤◌, List, [], ◌∷◌, length, map, take, drop, get_or, reverse, refl, ap, sym, subst, ◌∙◌, arith, length-append}
-use Rattle.std.proofs.lemmas.List.{get_or-map, length-map, take-append-drop, length-drop, length-reverse}
+use Rattle.std.proofs.Common.{◌≡◌, ℕ, zero, suc, ◌+◌, ◌-◌, ◌<◌, ◌≤◌, List, [], ◌∷◌, length, take, drop, get_or, reverse, refl, ap, sym, subst, ◌∙◌, arith, length-append}
+use Rattle.std.proofs.lemmas.List.{take-append-drop, length-drop, length-reverse}
 use Rattle.expression_theory.specs.Expression.{Tree}
-use Rattle.expression_theory.specs.Polish.{polish, trees, IsNotation, letters, positions_among}
+use Rattle.expression_theory.specs.Polish.{polish, trees, IsNotation, letters}
 use Rattle.expression_theory.proofs.Polish.{trees_of_polish, letters_append, notation_drop, positions_counted}
 use Rattle.expression_theory.specs.declared.notation.Node.TheVariants as node
 use Rattle.regex_reader.specs.Marks.{Table, widest}
@@ -19,7 +19,7 @@ read_letter ns a n xs ys m h e c =
     let s = position_left ns n xs m h in
     let f : (n - 1) + 1 ≡ n = omega arith in
     read_on ns (node.Letter a) n (n - 1) xs ys m m h e
-        (subst (λ i. HasCombined (node.Letter a) i xs m (n - 1) ys m) f (c a m))
+    (subst (λ i. HasCombined (node.Letter a) i xs m (n - 1) ys m) f (c a m))
 
 drop_one : (i : ℕ) (ns : List Node) → drop 1 (drop i ns) ≡ drop (i + 1) ns
 drop_one zero [] = refl

@@ -1,5 +1,5 @@
 -- Each expression has a position automaton.
-use Rattle.std.proofs.Common.{◌≡◌, ℕ, zero, suc, ◌+◌, ◌<◌, ◌≤◌, Bool, true, false, cond, IsTrue, ◌&&◌, ◌||◌, ◌==◌, ◌⊎◌, inl, inr, List, [], ◌∷◌, ◌++◌, length, get_or, replicate, refl, ap, sym, subst, ◌∙◌, arith}
+use Rattle.std.proofs.Common.{◌≡◌, ℕ, zero, suc, ◌+◌, ◌<◌, ◌≤◌, Bool, true, false, cond, ◌&&◌, ◌||◌, ◌==◌, ◌⊎◌, inl, inr, List, [], ◌∷◌, ◌++◌, length, get_or, refl, ap, sym, subst, ◌∙◌, arith}
 use Rattle.std.specs.List.{list_any}
 use Rattle.std.proofs.lemmas.List.{get_or_past}
 use Rattle.std.proofs.lemmas.List.Folds.{list_any-append}
@@ -7,7 +7,7 @@ use Rattle.std.proofs.lemmas.Bool.{cases_lt, or_cases, or_left, or_right, and_pa
 use Rattle.std.proofs.lemmas.Bool.Decides.{Decides-eqb}
 use Rattle.language_theory.specs.Automaton.{Automaton, is_step}
 use Rattle.expression_theory.specs.Expression.{Tree}
-use Rattle.expression_theory.specs.Positions.{positions, letter_of, StepsTo, IsFinalPosition, IsPositions}
+use Rattle.expression_theory.specs.Positions.{positions, letter_of, IsFinalPosition, IsPositions}
 use Rattle.expression_theory.proofs.Exchange.{between}
 use Rattle.expression_theory.proofs.Acceptance.{steps_below}
 use Rattle.regex_reader.proofs.Built.{Steps, Finals, step_decides, final_decides, steps_from_below}

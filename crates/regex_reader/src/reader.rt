@@ -65,12 +65,7 @@ fn within_nodes(nodes: u32, at: u64) -> Result<u32, ExprFault>
 }
 
 /// Reads a letter, `0` or `1`.
-fn read_operand(
-    alloc: Global,
-    reader: Reader,
-    operand: Leaf,
-    at: u64,
-) -> Result<Reader, ExprFault>
+fn read_operand(alloc: Global, reader: Reader, operand: Leaf, at: u64) -> Result<Reader, ExprFault>
     requires { IsReader reader }
     ensures { let class = Class.Good (Sign.Operand operand) in
         MatchResult result (HasRead reader class) (IsFaultAt (failing_here reader class) at) }

@@ -1,4 +1,3 @@
-use Rattle.std.proofs.Common.{map}
 use Rattle.regex_reader.proofs.Nodes.{one_left, left_part, left_some}
 use Rattle.regex_reader.proofs.evaluation.evaluate.Goals as goal
 

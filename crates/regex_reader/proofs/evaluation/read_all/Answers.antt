@@ -1,5 +1,4 @@
-use Rattle.std.proofs.Common.{rules, arith, ◌≡◌, ◌+◌, ◌-◌, ◌<◌, ◌≤◌, length, map, drop, sym, ap, subst, ◌∙◌}
-use Rattle.std.proofs.lemmas.List.{drop-map, length-map}
+use Rattle.std.proofs.Common.{rules, arith, ◌≡◌, ◌+◌, ◌-◌, ◌<◌, ◌≤◌, length, drop, sym, subst, ◌∙◌}
 use Rattle.expression_theory.specs.Polish as notation
 use Rattle.regex_reader.specs.Parts.{IsEvaluated, CanRead}
 use Rattle.regex_reader.proofs.Nodes.{can_read, all_read}

@@ -1,4 +1,4 @@
-use Rattle.std.proofs.Common.{◌≡◌, ◌≤◌, map, drop, length}
+use Rattle.std.proofs.Common.{◌≡◌, ◌≤◌, drop, length}
 use Rattle.expression_theory.specs.Polish as notation
 use Rattle.regex_reader.specs.Parts.{IsEvaluated}
 use Rattle.regex_reader.proofs.evaluation.read_all.Given as goal

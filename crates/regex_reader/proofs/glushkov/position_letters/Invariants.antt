@@ -1,4 +1,4 @@
-use Rattle.std.proofs.Common.{◌≡◌, ◌++◌, map, drop}
+use Rattle.std.proofs.Common.{◌≡◌, ◌++◌, drop}
 use Rattle.expression_theory.specs.Polish as notation
 use Rattle.regex_reader.proofs.glushkov.position_letters.Given as goal
 

@@ -1,4 +1,4 @@
-use Rattle.std.proofs.Common.{◌≡◌, ◌++◌, map, length}
+use Rattle.std.proofs.Common.{◌≡◌, ◌++◌, length}
 use Rattle.expression_theory.specs.Polish as notation
 use Rattle.regex_reader.specs.Expressions.{tree_of, waiting_trees}
 use Rattle.regex_reader.proofs.polish.polish.Given as goal
