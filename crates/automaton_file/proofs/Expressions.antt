@@ -3,13 +3,12 @@ use Rattle.std.proofs.Common.{◌≡◌, ◌<◌, ℕ, zero, suc, List, refl, sy
 use Rattle.std.specs.Prelude.{◌≤◌, Bool, not, ◌&&◌, ◌||◌, ◌==◌, is_none, Option, Some, None, length, ◌⊎◌}
 use Rattle.std.specs.Option.{option_or}
 use Rattle.std.proofs.lemmas.Bool.{and_parts, and_from, not-true, not_from_false, eq-eqb, eqb-true, cases_lt}
-use Rattle.expression_theory.specs.Scan.{FaultKind, classes, failing_at, due_from, depth, IsAccepted, IsFault, SpellsTree}
+use Rattle.expression_theory.specs.Scan.{FaultKind, failing_at, due_from, depth, IsAccepted, IsFault}
 use Rattle.expression_theory.proofs.Faults.{accepted_or_fault}
 use Rattle.automaton_file.specs.declared.sources.Wrong.TheVariants as wrong
 use Rattle.automaton_file.specs.LineText.{fields, behind_first}
 use Rattle.automaton_file.specs.ExprText.{is_clear, is_accepted, is_expression}
 use Rattle.automaton_file.specs.FileText.{unless, is_expr, body_fault}
-use Rattle.expression_theory.specs.Expression.{Tree}
 use Rattle.regex_reader.specs.Readers.{IsFirstFault}
 use Rattle.regex_reader.specs.declared.fault.ExprFault.{ExprFault}
 use Rattle.regex_reader.specs.declared.fault.ExprFault.TheVariants as expr

@@ -1,23 +1,20 @@
 -- The first fault at the next significant line, or behind it.
 use Rattle.std.proofs.Common.{◌≡◌, ◌≤◌, ℕ, ◌+◌, List, [], ◌∷◌, ◌++◌, length, sym, ap, ◌∙◌, subst, refl}
 use Rattle.std.specs.Prelude.{Bool, true, false, cond, nat_le, codes, Option, Some, None}
-use Rattle.syn_words.specs.Nfa.{bare, with_final}
+use Rattle.syn_words.specs.Nfa.{with_final}
 use Rattle.language_theory.specs.Automaton.{Automaton}
 use Rattle.automaton_file.specs.declared.sources.Wrong.{Wrong}
 use Rattle.automaton_file.specs.declared.sources.Wrong.TheVariants as wrong
-use Rattle.automaton_file.specs.LineText.{text_lines, fields, parts, behind_first, IsBadAhead, IsEndAhead}
-use Rattle.automaton_file.specs.FileText.{step_fault, marks_fault, automaton_fault, is_expr, state_count, letters_in, OfAutomaton, OfExpression}
+use Rattle.automaton_file.specs.LineText.{text_lines, fields, parts, IsBadAhead, IsEndAhead}
+use Rattle.automaton_file.specs.FileText.{step_fault, marks_fault, automaton_fault, is_expr, state_count}
 use Rattle.automaton_file.specs.Parts.{Lines, most_states}
-use Rattle.automaton_file.specs.Reading.{with_line, with_step_line, with_step_lines, automaton_of, ReadsSource, IsPart, IsTaken, IsNoPart, IsBadPart, IsRefusedPart, IsFaultAt, IsReadFault, lines_from, fault_else, faults_by, first_fault, automaton_first_fault, steps_first_fault, nothing_first_fault, IsMarksTaken, IsBodyLine, IsHead}
-use Rattle.expression_theory.specs.Scan.{classes, SpellsTree}
+use Rattle.automaton_file.specs.Reading.{with_line, with_step_line, with_step_lines, automaton_of, IsPart, IsTaken, IsNoPart, IsBadPart, IsRefusedPart, IsFaultAt, IsReadFault, lines_from, fault_else, faults_by, first_fault, automaton_first_fault, steps_first_fault, nothing_first_fault, IsMarksTaken, IsBodyLine, IsHead}
 use Rattle.regex_reader.specs.declared.expr.Expr as reader
-use Rattle.regex_reader.specs.Expressions.{tree_of}
 use Rattle.automaton_file.specs.declared.cursor.Cursor.{Cursor}
 use Rattle.automaton_file.specs.declared.reading.Part.{Part}
 use Rattle.automaton_file.specs.declared.reading.Head.{Head}
 use Rattle.automaton_file.specs.declared.parts.Mark.TheVariants.{Initial, Final}
 use Rattle.automaton_file.specs.declared.parts.BodyLine.TheVariants.{Nfa, Expr}
-use Rattle.automaton_file.specs.declared.faults.BadLine.{BadLine}
 use Rattle.automaton_file.specs.declared.faults.ReadFault.{ReadFault}
 use Rattle.automaton_file.specs.declared.faults.ReadFault.TheVariants.{Bad, Memory}
 use Rattle.automaton_file.proofs.FaultFold.{faults_behind, faults_at, parts_behind, parts_more, tested_bad, faults_behind_steps, faults_of_steps, faults_of_automaton, faults_of_expression}

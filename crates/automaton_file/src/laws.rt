@@ -1,6 +1,6 @@
 //! Laws of file texts.
 
-ghost use Rattle.std.specs.Prelude.{◌≡◌, ◌⊎◌, ◌↔◌, ◌≤◌, ℕ, ◌+◌, true, is_some, None, IsTrue, List, ◌∷◌, take};
+ghost use Rattle.std.specs.Prelude.{◌≡◌, ◌⊎◌, ◌↔◌, ◌≤◌, ℕ, ◌+◌, is_some, None, IsTrue, List, ◌∷◌, take};
 ghost use Rattle.expression_theory.specs.Expression.{Tree};
 ghost use Rattle.expression_theory.specs.Scan.{is_lower_case, classes, IsAccepted};
 ghost use Rattle.syn_words.specs.Alphabet.{IsLowerCase, AreDistinct, IsAlphabet};

@@ -1,6 +1,6 @@
 //! The parts of a file, each read from its line.
 
-ghost use Rattle.std.specs.Prelude.{◌≡◌, ◌≢◌, ◌<◌, ◌≤◌, ℕ, None, Some, true, false, [], ◌∷◌, length, MatchOption, MatchResult, IfOk, IfErr, OnOk};
+ghost use Rattle.std.specs.Prelude.{◌≡◌, ◌≢◌, ◌<◌, None, Some, true, false, [], ◌∷◌, length, MatchOption, MatchResult, IfOk, IfErr, OnOk};
 ghost use Rattle.std.specs.List.{list_all, concat};
 ghost use Rattle.syn_words.specs.Alphabet.{IsAlphabet};
 ghost use Rattle.expression_theory.specs.Scan.{classes, SpellsTree};
