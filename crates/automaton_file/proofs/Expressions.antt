@@ -3,18 +3,18 @@ use Rattle.std.proofs.Common.{◌≡◌, ◌<◌, ℕ, zero, suc, List, refl, sy
 use Rattle.std.specs.Prelude.{◌≤◌, Bool, not, ◌&&◌, ◌||◌, ◌==◌, is_none, Option, Some, None, length, ◌⊎◌}
 use Rattle.std.specs.Option.{option_or}
 use Rattle.std.proofs.lemmas.Bool.{and_parts, and_from, not-true, not_from_false, eq-eqb, eqb-true, cases_lt}
-use Rattle.expression_theory.specs.Scan.{Class, FaultKind, classes, failing_at, due_from, depth, IsAccepted, IsFault, SpellsTree}
+use Rattle.expression_theory.specs.Scan.{FaultKind, failing_at, due_from, depth, IsAccepted, IsFault}
 use Rattle.expression_theory.proofs.Faults.{accepted_or_fault}
 use Rattle.automaton_file.specs.declared.sources.Wrong.TheVariants as wrong
 use Rattle.automaton_file.specs.LineText.{fields, behind_first}
 use Rattle.automaton_file.specs.ExprText.{is_clear, is_accepted, is_expression}
 use Rattle.automaton_file.specs.FileText.{unless, is_expr, body_fault}
-use Rattle.expression_theory.specs.Expression.{Tree}
 use Rattle.regex_reader.specs.Readers.{IsFirstFault}
 use Rattle.regex_reader.specs.declared.fault.ExprFault.{ExprFault}
 use Rattle.regex_reader.specs.declared.fault.ExprFault.TheVariants as expr
 use Rattle.automaton_file.specs.declared.faults.LineFault.{LineFault}
 use Rattle.automaton_file.specs.Reading.{IsRaised, IsLineFault}
+use Rattle.expression_theory.specs.declared.signs.Class.{Class}
 
 is_none_none : (o : Option FaultKind) → is_none o ≡ true → o ≡ None
 is_none_none None e = refl
@@ -79,7 +79,3 @@ fault_raised cs (expr.Unexpected at) raised h same = subst (IsLineFault (unless 
 fault_raised cs (expr.UnknownLetter at) raised h same = subst (IsLineFault (unless (is_accepted cs) wrong.Expression)) (sym same) (ap (λ (b : Bool). unless b wrong.Expression) (fault_test cs _ at h))
 fault_raised cs (expr.TooDeep at) raised h same = subst (IsLineFault (unless (is_accepted cs) wrong.Expression)) (sym same) (ap (λ (b : Bool). unless b wrong.Expression) (fault_test cs _ at h))
 fault_raised cs (expr.TooLarge at) raised h same = subst (IsLineFault (unless (is_accepted cs) wrong.Expression)) (sym same) (ap (λ (b : Bool). unless b wrong.Expression) (fault_test cs _ at h))
-
--- what a body line with `expr` begins, where its text spells an expression
-pub expression_begun : (letters line more : List ℕ) (tree : Tree) → is_expr (fields line) ≡ true → more ≡ behind_first line → is_expression letters more ≡ true → SpellsTree (classes letters more) tree → (body_fault letters line ≡ None) × (is_expr (fields line) ≡ true) × SpellsTree (classes letters (behind_first line)) tree
-expression_begun letters line more tree e same passes spells = (expression_tested letters line more true e (sym same) passes, e, subst (λ (text : List ℕ). SpellsTree (classes letters text) tree) same spells)

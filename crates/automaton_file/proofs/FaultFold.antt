@@ -69,13 +69,13 @@ faults_at test whole earlier text rest number plain significant =
     ap (λ (o : Option Wrong). fault_else o number (faults_by test whole (earlier ++ parts (text ∷ [])) (number + 1) rest)) (tested_part test earlier text plain significant)
     ∙ ap (λ (p : Lines). fault_else (test earlier text) number (faults_by test whole (earlier ++ p) (number + 1) rest)) (part_alone text significant)
 
--- tests that do not look at the lines in front
-pub faults_shift : (test other : Lines → List ℕ → Option Wrong) (whole all : Lines → Bool) (front : Lines) → ((more : Lines) (line : List ℕ) → test (front ++ more) line ≡ other more line) → ((more : Lines) → whole (front ++ more) ≡ all more) → (more : Lines) (number : ℕ) (texts : List (List ℕ)) → faults_by test whole (front ++ more) number texts ≡ faults_by other all more number texts
-faults_shift test other whole all front ht hw more number [] = ap (λ (b : Bool). cond b None (Some (number, wrong.Missing))) (hw more)
-faults_shift test other whole all front ht hw more number (t ∷ ts) =
-    ap (λ (o : Option Wrong). fault_else (option_or (unless (is_plain t) wrong.Byte) (cond (is_significant (fields t)) o None)) number (faults_by test whole (front ++ more ++ parts (t ∷ [])) (number + 1) ts)) (ht more t)
+-- tests that do not look at a prefix of the lines
+pub faults_shift : (test other : Lines → List ℕ → Option Wrong) (whole all : Lines → Bool) (prefix : Lines) → ((more : Lines) (line : List ℕ) → test (prefix ++ more) line ≡ other more line) → ((more : Lines) → whole (prefix ++ more) ≡ all more) → (more : Lines) (number : ℕ) (texts : List (List ℕ)) → faults_by test whole (prefix ++ more) number texts ≡ faults_by other all more number texts
+faults_shift test other whole all prefix ht hw more number [] = ap (λ (b : Bool). cond b None (Some (number, wrong.Missing))) (hw more)
+faults_shift test other whole all prefix ht hw more number (t ∷ ts) =
+    ap (λ (o : Option Wrong). fault_else (option_or (unless (is_plain t) wrong.Byte) (cond (is_significant (fields t)) o None)) number (faults_by test whole (prefix ++ more ++ parts (t ∷ [])) (number + 1) ts)) (ht more t)
     ∙ ap (λ (r : Option (ℕ × Wrong)). fault_else (tested other more t) number r)
-    (ap (λ (e : Lines). faults_by test whole e (number + 1) ts) (append_assoc front more (parts (t ∷ []))) ∙ faults_shift test other whole all front ht hw (more ++ parts (t ∷ [])) (number + 1) ts)
+    (ap (λ (e : Lines). faults_by test whole e (number + 1) ts) (append_assoc prefix more (parts (t ∷ []))) ∙ faults_shift test other whole all prefix ht hw (more ++ parts (t ∷ [])) (number + 1) ts)
 
 -- behind the body line of an automaton
 pub faults_of_automaton : (header alphabet body : List ℕ) (number : ℕ) (texts : List (List ℕ)) → is_expr (fields body) ≡ false → first_fault (header ∷ alphabet ∷ body ∷ []) number texts ≡ automaton_first_fault (letters_in alphabet) (state_count (fields body)) [] number texts

@@ -18,7 +18,7 @@ fields_none : fields [] ≡ []
 unfolding fields
 fields_none = refl
 
--- a space or tab at the front makes no field
+-- a space or tab as the first byte makes no field
 fields_blank : (x : ℕ) (xs : List ℕ) → is_blank x ≡ true → fields (x ∷ xs) ≡ fields xs
 unfolding fields
 fields_blank x xs h = ap (filter (λ field. not (length field == 0))) (slice_split-cons_yes is_blank x xs h)
@@ -38,7 +38,7 @@ fields_blanks (x ∷ xs) (suc n) h =
 filter_run : (run : List ℕ) (more : List (List ℕ)) → 0 < length run → filter (λ (field : List ℕ). not (length field == 0)) (run ∷ more) ≡ run ∷ filter (λ (field : List ℕ). not (length field == 0)) more
 filter_run run more h = grind (arith, nat_tests)
 
--- the length of the run of other bytes at the front
+-- the length of the longest prefix of other bytes
 abbrev pub run : List ℕ → ℕ
 run xs = position_or_len is_blank xs
 
@@ -60,7 +60,7 @@ fields_last xs e h =
     ap (filter (λ (field : List ℕ). not (length field == 0))) (slice_split_none is_blank xs (All-from_get_or (λ b. is_blank b ≡ false) xs 0 (λ i k. fails_before_first is_blank xs i 0 (omega arith))))
     ∙ filter_run xs [] h
 
--- a run of other bytes at the front is a field
+-- the longest prefix of other bytes is a field
 pub fields_run : (xs : List ℕ) → 0 < run xs → fields xs ≡ take (run xs) xs ∷ fields (drop (run xs) xs)
 fields_run xs h = by (cases_lt (run xs) (length xs))
   where
@@ -94,4 +94,4 @@ fields_cut text begun start found e = fields_from text start found ∙ ap fields
 
 -- the same, for its two sides
 pub fields_cut_at : (text begun : List ℕ) (start n : ℕ) → position is_dark text ≡ Some start → begun ≡ drop start text → n ≡ run begun → (field rest : List ℕ) → field ≡ take n begun → rest ≡ drop n begun → fields text ≡ field ∷ fields rest
-fields_cut_at text begun start n found e same field rest front back = let cut = fields_cut text begun start found e in rw (front, back, same) cut
+fields_cut_at text begun start n found e same field rest prefix back = let cut = fields_cut text begun start found e in rw (prefix, back, same) cut

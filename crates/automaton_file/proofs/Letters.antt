@@ -6,12 +6,13 @@ use Rattle.std.proofs.lemmas.Bool.{and_parts, and_from, or_parts, or_from, leb-t
 use Rattle.std.proofs.lemmas.List.Elements.{All-weaker, Contains-get_or}
 use Rattle.std.proofs.lemmas.List.Sums.{AllPass-from_list_all, list_all-from_AllPass, position_or_len_is}
 use Rattle.syn_words.specs.Alphabet.{IsAlphabet, IsLowerCase, AreDistinct}
-use Rattle.automaton_file.specs.FileText.{is_alphabet, is_lower_case, are_distinct}
+use Rattle.automaton_file.specs.FileText.{is_alphabet, are_distinct}
+use Rattle.expression_theory.specs.Scan.{is_lower_case}
 
-lower_case_test : (b : ℕ) → IsLowerCase b → is_lower_case b ≡ true
+pub lower_case_test : (b : ℕ) → IsLowerCase b → is_lower_case b ≡ true
 lower_case_test b h = and_from (nat_le 97 b) (nat_le b 122) (le-leb 97 b h.0) (le-leb b 122 h.1)
 
-from_lower_case_test : (b : ℕ) → is_lower_case b ≡ true → IsLowerCase b
+pub from_lower_case_test : (b : ℕ) → is_lower_case b ≡ true → IsLowerCase b
 from_lower_case_test b h = let both = and_parts (nat_le 97 b) (nat_le b 122) h in (leb-true 97 b both.0, leb-true b 122 both.1)
 
 -- a byte that is not in a list
@@ -25,14 +26,14 @@ from_absent_test b [] h j k = absurd (omega arith)
 from_absent_test b (c ∷ more) h zero k = λ e. eqb-false c b (or_parts (c == b) (list_any (λ c. c == b) more) h).0 (sym e)
 from_absent_test b (c ∷ more) h (suc j) k = from_absent_test b more (or_parts (c == b) (list_any (λ c. c == b) more) h).1 j (omega arith)
 
-distinct_test : (text : List ℕ) → AreDistinct text → are_distinct text ≡ true
+pub distinct_test : (text : List ℕ) → AreDistinct text → are_distinct text ≡ true
 distinct_test [] h = refl
 distinct_test (b ∷ more) h =
     and_from (not (list_any (λ c. c == b) more)) (are_distinct more)
     (not_from_false _ (absent_test b more (λ j k. h zero (suc j) (omega arith) (omega arith))))
     (distinct_test more (λ i j k l. h (suc i) (suc j) (omega arith) (omega arith)))
 
-from_distinct_test : (text : List ℕ) → are_distinct text ≡ true → AreDistinct text
+pub from_distinct_test : (text : List ℕ) → are_distinct text ≡ true → AreDistinct text
 from_distinct_test [] h i j k l = absurd (omega arith)
 from_distinct_test (b ∷ more) h i zero k l = absurd (omega arith)
 from_distinct_test (b ∷ more) h zero (suc j) k l = from_absent_test b more (not-true _ (and_parts (not (list_any (λ c. c == b) more)) (are_distinct more) h).0) j (omega arith)

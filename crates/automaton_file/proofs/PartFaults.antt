@@ -1,23 +1,20 @@
 -- The first fault at the next significant line, or behind it.
 use Rattle.std.proofs.Common.{◌≡◌, ◌≤◌, ℕ, ◌+◌, List, [], ◌∷◌, ◌++◌, length, sym, ap, ◌∙◌, subst, refl}
 use Rattle.std.specs.Prelude.{Bool, true, false, cond, nat_le, codes, Option, Some, None}
-use Rattle.syn_words.specs.Nfa.{bare, with_final}
+use Rattle.syn_words.specs.Nfa.{with_final}
 use Rattle.language_theory.specs.Automaton.{Automaton}
 use Rattle.automaton_file.specs.declared.sources.Wrong.{Wrong}
 use Rattle.automaton_file.specs.declared.sources.Wrong.TheVariants as wrong
-use Rattle.automaton_file.specs.LineText.{text_lines, fields, parts, behind_first, IsBadAhead, IsEndAhead}
-use Rattle.automaton_file.specs.FileText.{step_fault, marks_fault, automaton_fault, is_expr, state_count, letters_in, OfAutomaton, OfExpression}
-use Rattle.automaton_file.specs.Parts.{Lines}
-use Rattle.automaton_file.specs.Reading.{with_line, with_step_line, with_step_lines, automaton_of, ReadsSource, IsPart, IsTaken, IsNoPart, IsBadPart, IsRefusedPart, IsFaultAt, IsReadFault, lines_from, fault_else, faults_by, first_fault, automaton_first_fault, steps_first_fault, nothing_first_fault, IsMarksTaken, IsBodyLine, IsHead}
-use Rattle.expression_theory.specs.Scan.{classes, SpellsTree}
+use Rattle.automaton_file.specs.LineText.{text_lines, fields, parts, IsBadAhead, IsEndAhead}
+use Rattle.automaton_file.specs.FileText.{step_fault, marks_fault, automaton_fault, is_expr, state_count}
+use Rattle.automaton_file.specs.Parts.{Lines, most_states}
+use Rattle.automaton_file.specs.Reading.{with_line, with_step_line, with_step_lines, automaton_of, IsPart, IsTaken, IsNoPart, IsBadPart, IsRefusedPart, IsFaultAt, IsReadFault, lines_from, fault_else, faults_by, first_fault, automaton_first_fault, steps_first_fault, nothing_first_fault, IsMarksTaken, IsBodyLine, IsHead}
 use Rattle.regex_reader.specs.declared.expr.Expr as reader
-use Rattle.regex_reader.specs.Expressions.{tree_of}
 use Rattle.automaton_file.specs.declared.cursor.Cursor.{Cursor}
 use Rattle.automaton_file.specs.declared.reading.Part.{Part}
 use Rattle.automaton_file.specs.declared.reading.Head.{Head}
 use Rattle.automaton_file.specs.declared.parts.Mark.TheVariants.{Initial, Final}
 use Rattle.automaton_file.specs.declared.parts.BodyLine.TheVariants.{Nfa, Expr}
-use Rattle.automaton_file.specs.declared.faults.BadLine.{BadLine}
 use Rattle.automaton_file.specs.declared.faults.ReadFault.{ReadFault}
 use Rattle.automaton_file.specs.declared.faults.ReadFault.TheVariants.{Bad, Memory}
 use Rattle.automaton_file.proofs.FaultFold.{faults_behind, faults_at, parts_behind, parts_more, tested_bad, faults_behind_steps, faults_of_steps, faults_of_automaton, faults_of_expression}
@@ -48,9 +45,6 @@ taken cursor part p = record {
   faults = λ test whole earlier none. fault_behind cursor part p test whole earlier none;
   parts = part_parts cursor part p;
 }
-
-pub no_part_refused : (fault : List ℕ → Option Wrong) (cursor : Cursor) (bad : BadLine) → IsNoPart cursor bad → IsRefusedPart fault cursor bad
-no_part_refused fault cursor bad h = record { first = λ test whole earlier hw ht. h.first test whole earlier hw }
 
 pub part_refused : (fault : List ℕ → Option Wrong) (cursor : Cursor) (part : Part) (w : Wrong) → IsPart cursor part → fault part.text.now ≡ Some w → IsRefusedPart fault cursor (record { line = part.number; wrong = w })
 part_refused fault cursor part w p found = record { first = λ test whole earlier hw ht. fault_found cursor part p test whole earlier w (ht part.text.now ∙ found) }
@@ -103,23 +97,10 @@ marks_then_step_lines letters cursor next last m m' m'' h k =
 -- the first three parts are read, and the body is an automaton
 pub head_faults : (bytes : List ℕ) (head : Head) (count : ℕ) → IsHead bytes head → head.body ≡ Nfa count → first_fault [] 1 (text_lines bytes) ≡ automaton_first_fault head.alphabet count [] head.next.number (lines_from head.next)
 head_faults bytes head count h e =
-    let begins : (is_expr (fields h.body) ≡ false) × (state_count (fields h.body) ≡ count) × (1 ≤ count) × (count ≤ 1000) = subst (IsBodyLine head.alphabet h.body) e h.begins in
+    let begins : (is_expr (fields h.body) ≡ false) × (state_count (fields h.body) ≡ count) × (1 ≤ count) × (count ≤ most_states) = subst (IsBodyLine head.alphabet h.body) e h.begins in
     h.faults ∙ faults_of_automaton h.header h.alphabet h.body head.next.number (lines_from head.next) begins.0
     ∙ ap (λ (letters : List ℕ). automaton_first_fault letters (state_count (fields h.body)) [] head.next.number (lines_from head.next)) (sym h.letters)
     ∙ ap (λ (n : ℕ). automaton_first_fault head.alphabet n [] head.next.number (lines_from head.next)) begins.1
-
--- the lines behind the body line spell the automaton
-pub head_automaton : (bytes : List ℕ) (head : Head) (count : ℕ) (m : Automaton) → IsHead bytes head → head.body ≡ Nfa count → m ≡ automaton_of head.alphabet (bare count (length head.alphabet)) (parts (lines_from head.next)) → ReadsSource (parts (text_lines bytes)) (record { letters = head.alphabet; body = OfAutomaton m })
-head_automaton bytes head count m h e same =
-    let begins : (is_expr (fields h.body) ≡ false) × (state_count (fields h.body) ≡ count) × (1 ≤ count) × (count ≤ 1000) = subst (IsBodyLine head.alphabet h.body) e h.begins in
-    subst (λ (ps : Lines). ReadsSource ps (record { letters = head.alphabet; body = OfAutomaton m })) (sym h.parts) (
-      h.letters,
-      (
-        begins.0,
-        same ∙ ap (λ (letters : List ℕ). automaton_of letters (bare count (length letters)) (parts (lines_from head.next))) h.letters
-            ∙ ap (λ (n : ℕ). automaton_of (letters_in h.alphabet) (bare n (length (letters_in h.alphabet))) (parts (lines_from head.next))) (sym begins.1),
-      ),
-    )
 
 pub steps_at_end : (letters : List ℕ) (count : ℕ) (cursor : Cursor) (end : ℕ) → IsEndAhead cursor.bytes.now cursor.at cursor.number end → steps_first_fault letters count cursor.number (lines_from cursor) ≡ None
 steps_at_end letters count cursor end h = faults_at_end (λ _ line. step_fault letters count (fields line)) (λ _. true) [] cursor end h refl
@@ -129,12 +110,6 @@ pub head_nothing : (bytes : List ℕ) (head : Head) (expr : reader.Expr) → IsH
 head_nothing bytes head expr h e =
     let begins = subst (IsBodyLine head.alphabet h.body) e h.begins in
     h.faults ∙ faults_of_expression h.header h.alphabet h.body head.next.number (lines_from head.next) begins.0
-
-pub head_expression : (bytes : List ℕ) (head : Head) (expr : reader.Expr) → IsHead bytes head → head.body ≡ Expr expr → ReadsSource (parts (text_lines bytes)) (record { letters = head.alphabet; body = OfExpression (tree_of expr) })
-head_expression bytes head expr h e =
-    let begins = subst (IsBodyLine head.alphabet h.body) e h.begins in
-    subst (λ (ps : Lines). ReadsSource ps (record { letters = head.alphabet; body = OfExpression (tree_of expr) })) (sym h.parts)
-    (h.letters, (begins.0, subst (λ (letters : List ℕ). SpellsTree (classes letters (behind_first h.body)) (tree_of expr)) h.letters begins.1))
 
 -- a significant line where none may stand
 pub part_behind_expression : (cursor : Cursor) (part : Part) → IsPart cursor part → nothing_first_fault cursor.number (lines_from cursor) ≡ Some (part.number, wrong.OutOfPlace)

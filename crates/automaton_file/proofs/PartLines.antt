@@ -13,14 +13,14 @@ use Rattle.automaton_file.specs.declared.parts.Mark.{Mark}
 use Rattle.automaton_file.specs.declared.parts.Mark.TheVariants.{Initial, Final}
 use Rattle.automaton_file.specs.LineText.{fields, value, number_below}
 use Rattle.automaton_file.specs.FileText.{unless, begins_with, alphabet_fault, is_alphabet, letters_of, count_of, state_count, is_expr, body_fault, is_state, letter_of, step_fault}
-use Rattle.automaton_file.specs.Parts.{Fields}
+use Rattle.automaton_file.specs.Parts.{Fields, most_states}
 use Rattle.automaton_file.specs.Reading.{with_marks, with_step_line, mark_state}
 use Rattle.automaton_file.proofs.Digits.{number_below_gives, number_below_or_zero}
 use Rattle.automaton_file.proofs.Letters.{alphabet_test, no_alphabet_test}
 
-count_of_le : (line : Fields) → count_of line ≤ 1000
+count_of_le : (line : Fields) → count_of line ≤ most_states
 count_of_le [] = omega arith
-count_of_le (number ∷ []) = number_below_or_zero 1000 number
+count_of_le (number ∷ []) = number_below_or_zero most_states number
 count_of_le (number ∷ other ∷ more) = omega arith
 
 -- the tests of a body line with `nfa`
@@ -28,11 +28,7 @@ pub automaton_tested : (letters line : List ℕ) → is_expr (fields line) ≡ f
 automaton_tested letters line expr nfa true is = rw (expr, nfa, is) refl
 automaton_tested letters line expr nfa false is = rw (expr, nfa, is) refl
 
--- the test of a body line with another word
-pub other_tested : (letters line : List ℕ) → is_expr (fields line) ≡ false → begins_with (codes "nfa") (fields line) ≡ false → body_fault letters line ≡ Some wrong.Body
-other_tested letters line expr nfa = rw (expr, nfa) refl
-
-pub body_of_count : (letters line : List ℕ) (more : Fields) (word : List ℕ) (n : ℕ) → fields line ≡ word ∷ more → bytes_eq word (codes "expr") ≡ false → bytes_eq word (codes "nfa") ≡ true → n ≡ count_of more → n ≢ 0 → (body_fault letters line ≡ None) × ((is_expr (fields line) ≡ false) × (state_count (fields line) ≡ n) × (1 ≤ n) × (n ≤ 1000))
+pub body_of_count : (letters line : List ℕ) (more : Fields) (word : List ℕ) (n : ℕ) → fields line ≡ word ∷ more → bytes_eq word (codes "expr") ≡ false → bytes_eq word (codes "nfa") ≡ true → n ≡ count_of more → n ≢ 0 → (body_fault letters line ≡ None) × ((is_expr (fields line) ≡ false) × (state_count (fields line) ≡ n) × (1 ≤ n) × (n ≤ most_states))
 body_of_count letters line more word n e other is_nfa same some =
     let is : (state_count (fields line) == 0) ≡ false = ne_eqb _ 0 (λ z. some (same ∙ ap state_count (sym e) ∙ z)) in
     let expr : is_expr (fields line) ≡ false = ap is_expr e ∙ other in

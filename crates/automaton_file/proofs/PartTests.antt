@@ -1,5 +1,5 @@
 -- Each test of a line is passed exactly where the line is its part.
-use Rattle.std.proofs.Common.{◌≡◌, ◌≢◌, ◌<◌, ◌≤◌, ℕ, List, [], ◌∷◌, length, refl, sym, ap, ◌∙◌, arith, true, false, inl, inr, ◌⊎◌}
+use Rattle.std.proofs.Common.{◌≡◌, ◌≢◌, ◌<◌, ◌≤◌, ℕ, List, [], ◌∷◌, length, refl, sym, ap, ◌∙◌, arith, true, false, inl, inr, ◌⊎◌, ◌+◌}
 use Rattle.std.specs.Prelude.{Bool, IsTrue, not, Option, Some, None, ◌||◌, ◌==◌, ◌↔◌, codes, is_some, slice_index, All}
 use Rattle.std.specs.Fmt.{decimal}
 use Rattle.std.specs.Option.{unwrap_or, option_or}
@@ -18,7 +18,7 @@ use Rattle.automaton_file.specs.declared.sources.Wrong.{Wrong}
 use Rattle.automaton_file.specs.declared.sources.Wrong.TheVariants as wrong
 use Rattle.automaton_file.specs.LineText.{fields, behind_first, number_below}
 use Rattle.automaton_file.specs.ExprText.{is_expression}
-use Rattle.automaton_file.specs.Parts.{Fields, IsState, SpellsLetter, IsLetter, IsHeader, SpellsAlphabet, SpellsCount, SpellsExpression, IsStatesLine, SpellsStep, IsStepLine}
+use Rattle.automaton_file.specs.Parts.{Fields, IsState, SpellsLetter, IsLetter, IsHeader, SpellsAlphabet, SpellsCount, SpellsExpression, IsStatesLine, SpellsStep, IsStepLine, most_states}
 use Rattle.automaton_file.specs.FileText.{unless, begins_with, is_expr, is_alphabet, letters_of, letters_in, count_of, state_count, is_state, letter_of, header_fault, alphabet_fault, body_fault, marks_fault, step_fault}
 use Rattle.automaton_file.proofs.Digits.{number_below_spelled, spelled_number_below}
 use Rattle.automaton_file.proofs.Letters.{alphabet_test, from_alphabet_test, position_some}
@@ -107,14 +107,14 @@ alphabet_part line =
 -- the body line
 
 count_spelled : (line : Fields) (n : ℕ) → count_of line ≡ n → n ≢ 0 → (line ≡ decimal n ∷ [])
-    × (n ≤ 1000)
+    × (n ≤ most_states)
 count_spelled [] n e h = absurd (h (sym e))
-count_spelled (number ∷ []) n e h = by (number_below 1001 number) refl
+count_spelled (number ∷ []) n e h = by (number_below (most_states + 1) number) refl
   where
-    by : (o : Option ℕ) → number_below 1001 number ≡ o → (number ∷ [] ≡ decimal n ∷ []) × (n ≤ 1000)
+    by : (o : Option ℕ) → number_below (most_states + 1) number ≡ o → (number ∷ [] ≡ decimal n ∷ []) × (n ≤ most_states)
     by None found = absurd (h (sym e ∙ ap (λ (o : Option ℕ). unwrap_or o 0) found))
     by (Some m) found =
-        let spelled = number_below_spelled 1001 m number (omega arith) found in
+        let spelled = number_below_spelled (most_states + 1) m number (omega arith) found in
         let same : m ≡ n = sym (ap (λ (o : Option ℕ). unwrap_or o 0) found) ∙ e in
         (ap (λ (f : List ℕ). f ∷ []) (spelled.1 ∙ ap decimal same), omega (arith, spelled.0, same))
 count_spelled (number ∷ other ∷ more) n e h = absurd (h (sym e))
@@ -124,7 +124,7 @@ pub spelled_count : (states : ℕ) (line : List ℕ) → SpellsCount states line
 spelled_count states line h =
     ap state_count h.stands
     ∙ ap (λ (o : Option ℕ). unwrap_or o 0)
-    (spelled_number_below 1001 states (decimal states) (omega arith)
+    (spelled_number_below (most_states + 1) states (decimal states) (omega arith)
     (let few = h.few in omega arith) refl)
 
 nfa_passed : (e n c x : Bool) → e ≡ false
@@ -194,19 +194,19 @@ some_of : (o : Option ℕ) → is_some o ≡ true → (n : ℕ) × (o ≡ Some n
 some_of None e = absurd (cc)
 some_of (Some n) e = (n, refl)
 
-pub state_of : (states : ℕ) (field : List ℕ) → states ≤ 1000 → is_state states field ≡ true
+pub state_of : (states : ℕ) (field : List ℕ) → states ≤ most_states → is_state states field ≡ true
     → IsState states field
 state_of states field few e =
     let found = some_of (number_below states field) e in
     let spelled = number_below_spelled states found.0 field (omega arith) found.1 in
     (found.0, spelled.0, spelled.1)
 
-pub state_passes : (states : ℕ) (field : List ℕ) → states ≤ 1000 → IsState states field
+pub state_passes : (states : ℕ) (field : List ℕ) → states ≤ most_states → IsState states field
     → is_state states field ≡ true
 state_passes states field few (p, below, spelled) =
     ap is_some (spelled_number_below states p field (omega arith) below spelled)
 
-states_fields : (word : List ℕ) (states : ℕ) (line : Fields) → states ≤ 1000
+states_fields : (word : List ℕ) (states : ℕ) (line : Fields) → states ≤ most_states
     → marks_fault word states line ≡ None → (numbers : Fields) × (line ≡ word ∷ numbers)
     × All (IsState states) numbers
 states_fields word states [] few e = absurd (cc)
@@ -220,13 +220,13 @@ states_fields word states (field ∷ numbers) few e =
           (λ f. is_state states f ≡ true) (IsState states) (λ f. state_of states f few) numbers each,
     )
 
-pub states_of_line : (word : List ℕ) (states : ℕ) (line : List ℕ) → states ≤ 1000
+pub states_of_line : (word : List ℕ) (states : ℕ) (line : List ℕ) → states ≤ most_states
     → marks_fault word states (fields line) ≡ None → IsStatesLine word states line
 states_of_line word states line few e =
     let parts = states_fields word states (fields line) few e in
     record { numbers = parts.0; stands = parts.1; each = parts.2 }
 
-pub line_of_states : (word : List ℕ) (states : ℕ) (line : List ℕ) → states ≤ 1000
+pub line_of_states : (word : List ℕ) (states : ℕ) (line : List ℕ) → states ≤ most_states
     → IsStatesLine word states line → marks_fault word states (fields line) ≡ None
 line_of_states word states line few h =
     let each = All-weaker (IsState states) (λ f. is_state states f ≡ true)
@@ -264,7 +264,7 @@ letter_test alphabet field is = (
 
 -- steps
 
-step_fields : (alphabet : List ℕ) (states : ℕ) (line : Fields) → states ≤ 1000
+step_fields : (alphabet : List ℕ) (states : ℕ) (line : Fields) → states ≤ most_states
     → step_fault alphabet states line ≡ None
     → (p a q : ℕ) × (line ≡ decimal p ∷ (slice_index alphabet a ∷ []) ∷ decimal q ∷ [])
     × (p < states) × (a < length alphabet) × (q < states)
@@ -293,14 +293,14 @@ step_fields alphabet states (from ∷ letter ∷ to ∷ []) few e =
     )
 step_fields alphabet states (from ∷ letter ∷ to ∷ other ∷ more) few e = absurd (cc)
 
-pub step_of_line : (alphabet : List ℕ) (states : ℕ) (line : List ℕ) → states ≤ 1000
+pub step_of_line : (alphabet : List ℕ) (states : ℕ) (line : List ℕ) → states ≤ most_states
     → step_fault alphabet states (fields line) ≡ None → IsStepLine alphabet states line
 step_of_line alphabet states line few e =
     let parts = step_fields alphabet states (fields line) few e in
     (parts.0, parts.1, parts.2, record { stands = parts.3; from_state = parts.4; of_alphabet = parts.5; to_state = parts.6 })
 
 pub line_of_step : (alphabet : List ℕ) (states p a q : ℕ) (line : List ℕ) → IsAlphabet alphabet
-    → states ≤ 1000 → SpellsStep alphabet states p a q line
+    → states ≤ most_states → SpellsStep alphabet states p a q line
     → step_fault alphabet states (fields line) ≡ None
 line_of_step alphabet states p a q line is few h =
     ap (step_fault alphabet states) h.stands
@@ -312,13 +312,13 @@ line_of_step alphabet states p a q line is few h =
     (passing (is_state states (decimal q)) wrong.State
     (state_passes states _ few (q, h.to_state, refl))))
 
-pub states_part : (word : List ℕ) (states : ℕ) (line : List ℕ) → states ≤ 1000
+pub states_part : (word : List ℕ) (states : ℕ) (line : List ℕ) → states ≤ most_states
     → marks_fault word states (fields line) ≡ None ↔ IsStatesLine word states line
 states_part word states line few =
     (states_of_line word states line few, line_of_states word states line few)
 
 pub step_part : (alphabet : List ℕ) (states : ℕ) (line : List ℕ) → IsAlphabet alphabet
-    → states ≤ 1000 → step_fault alphabet states (fields line) ≡ None
+    → states ≤ most_states → step_fault alphabet states (fields line) ≡ None
     ↔ IsStepLine alphabet states line
 step_part alphabet states line is few =
     (step_of_line alphabet states line few, λ (p, a, q, h). line_of_step alphabet states p a q line is few h)

@@ -12,7 +12,7 @@ use Rattle.expression_theory.specs.Scan.{classes, SpellsTree}
 use Rattle.automaton_file.specs.declared.sources.Wrong.{Wrong}
 use Rattle.automaton_file.specs.declared.sources.Wrong.TheVariants as wrong
 use Rattle.automaton_file.specs.LineText.{text_lines, fields, is_plain, is_significant, parts, behind_first}
-use Rattle.automaton_file.specs.Parts.{Lines, SpellsExpression, IsStatesLine, IsStepLine, SpellsAutomaton}
+use Rattle.automaton_file.specs.Parts.{Lines, SpellsExpression, IsStatesLine, IsStepLine, SpellsAutomaton, most_states}
 use Rattle.automaton_file.specs.FileText.{unless, is_expr, state_count, letters_in, part_fault, step_fault, marks_fault, is_whole, BodyText, OfAutomaton, OfExpression, SourceText, SpellsAutomatonFile, SpellsExpressionFile, SpellsBody, IsSource}
 use Rattle.automaton_file.specs.Reading.{fault_else, first_fault, automaton_of, IsWellSpelled, ReadsBody, ReadsSource, IsRead}
 use Rattle.automaton_file.proofs.PartTests.{first_passed, header_test, alphabet_spelled, spelled_letters, spelled_alphabet, count_of_body, tree_of_body, spelled_count, spelled_count_body, spelled_expression_body, states_of_line, line_of_states, step_of_line, line_of_step}
@@ -33,7 +33,7 @@ behind_automaton true o e pass = absurd (cc)
 behind_automaton false o e pass = pass
 
 steps_spelled : (header letters body initial final : List ℕ) (done steps : Lines)
-    → is_expr (fields body) ≡ false → state_count (fields body) ≤ 1000
+    → is_expr (fields body) ≡ false → state_count (fields body) ≤ most_states
     → PartsPass (header ∷ letters ∷ body ∷ initial ∷ final ∷ done) steps
     → All (IsStepLine (letters_in letters) (state_count (fields body))) steps
 steps_spelled header letters body initial final done [] e few pass =
@@ -166,7 +166,7 @@ clear_lines earlier number (t ∷ ts) plain pass whole =
 
 steps_read : (header letters body initial final : List ℕ) (done steps : Lines)
     → IsAlphabet (letters_in letters) → is_expr (fields body) ≡ false
-    → state_count (fields body) ≤ 1000
+    → state_count (fields body) ≤ most_states
     → All (IsStepLine (letters_in letters) (state_count (fields body))) steps
     → PartsPass (header ∷ letters ∷ body ∷ initial ∷ final ∷ done) steps
 steps_read header letters body initial final done [] is e few each = tt
@@ -220,7 +220,7 @@ automaton_read lines alphabet m h =
     count : state_count (fields h.body) ≡ h.states
     count = spelled_count h.states h.body h.is_body
 
-    few : state_count (fields h.body) ≤ 1000
+    few : state_count (fields h.body) ≤ most_states
     few = omega (arith, count, h.is_body.few)
 
     marks : (word line : List ℕ) → IsStatesLine word h.states line

@@ -1,14 +1,11 @@
 -- Lines that are skipped.
-use Rattle.std.proofs.Common.{◌≡◌, ℕ, zero, suc, ◌+◌, ◌-◌, ◌≤◌, List, [], ◌∷◌, ◌++◌, length, take, drop, refl, sym, ap, ◌∙◌, arith, true, false, append_assoc, length-append, subst}
+use Rattle.std.proofs.Common.{◌≡◌, ℕ, suc, ◌+◌, ◌-◌, ◌≤◌, List, [], ◌∷◌, ◌++◌, length, take, drop, sym, ap, ◌∙◌, arith, true, false, append_assoc, length-append, subst}
 use Rattle.std.specs.Prelude.{not}
 use Rattle.std.specs.List.{list_all}
 use Rattle.std.proofs.lemmas.Bool.{and_parts, and_from, not_from_false}
 use Rattle.std.proofs.lemmas.List.{drop-drop, drop_all}
 use Rattle.automaton_file.specs.LineText.{text_lines, line_len, line_start, is_plain, is_significant, fields, is_skipped, IsSkip}
 use Rattle.automaton_file.proofs.TextLines.{text_lines_none}
-
-pub skip_none : (texts : List (List ℕ)) (number : ℕ) → IsSkip texts number texts number
-skip_none texts number = record { skipped = []; split = refl; counted = omega arith; each = refl }
 
 all_push : (texts : List (List ℕ)) (text : List ℕ) → list_all is_skipped texts ≡ true → is_skipped text ≡ true → list_all is_skipped (texts ++ text ∷ []) ≡ true
 all_push [] text h k = rw k
@@ -27,7 +24,7 @@ skip_same texts rest other number at s e = subst (λ (r : List (List ℕ)). IsSk
 
 -- the first line of what stands from a place on
 pub line_ahead : (bytes rest text : List ℕ) (from t w : ℕ) → rest ≡ drop from bytes → text ≡ take t rest → text_lines rest ≡ take t rest ∷ text_lines (drop w rest) → text_lines (drop from bytes) ≡ text ∷ text_lines (drop (from + w) bytes)
-line_ahead bytes rest text from t w back front e = rw (← drop-drop w from bytes, ← back, front) e
+line_ahead bytes rest text from t w back prefix e = rw (← drop-drop w from bytes, ← back, prefix) e
 
 -- what is skipped so far, and one line more
 pub skip_line : (bytes text : List ℕ) (place number from at w : ℕ) → IsSkip (text_lines (drop place bytes)) number (text_lines (drop from bytes)) at → text_lines (drop from bytes) ≡ text ∷ text_lines (drop (from + w) bytes) → is_plain text ≡ true → is_significant (fields text) ≡ false → IsSkip (text_lines (drop place bytes)) number (text_lines (drop (from + w) bytes)) (at + 1)
@@ -44,6 +41,3 @@ pub line_start_next : (bytes rest : List ℕ) (place number from at w : ℕ) →
 line_start_next bytes rest place number from at w back same begins risen =
     let next : suc (at - number) ≡ at + 1 - number = omega arith in
     ap (λ (x : ℕ). from + x) (same ∙ ap line_len back) ∙ ap (λ (x : ℕ). x + line_len (drop x bytes)) begins ∙ ap (line_start bytes place) next
-
-pub line_start_first : (bytes : List ℕ) (place number : ℕ) → place ≡ line_start bytes place (number - number)
-line_start_first bytes place number = let none : zero ≡ number - number = omega arith in ap (line_start bytes place) none

@@ -67,35 +67,35 @@ source_or_refusal bytes = by (read_or_refusal bytes)
     by (inl (s, h)) = inl (s, read_is_source bytes s h)
     by (inr refusal) = inr refusal
 
--- a short front is all
-pub short_front : (n : ℕ) (bytes : List ℕ) → length (take (n + 1) bytes) ≤ n
+-- a short prefix is all
+pub prefix_short : (n : ℕ) (bytes : List ℕ) → length (take (n + 1) bytes) ≤ n
     → take (n + 1) bytes ≡ bytes
-short_front n bytes h = take_all (n + 1) bytes (omega (arith, length-take (n + 1) bytes))
+prefix_short n bytes h = take_all (n + 1) bytes (omega (arith, length-take (n + 1) bytes))
 
-pub front_spells : (bytes : List ℕ) (s : SourceText) → IsSource (take (most_bytes + 1) bytes) s
+pub prefix_spells : (bytes : List ℕ) (s : SourceText) → IsSource (take (most_bytes + 1) bytes) s
     → take (most_bytes + 1) bytes ≡ bytes
-front_spells bytes s h = short_front most_bytes bytes h.short
+prefix_spells bytes s h = prefix_short most_bytes bytes h.short
 
--- a long front is of a long text
+-- a long prefix is of a long text
 long_front : (n : ℕ) (bytes : List ℕ) → n < length (take (n + 1) bytes) → n < length bytes
 long_front n bytes h = omega (arith, length-take (n + 1) bytes)
 
-wrong_whole : (bytes front : List ℕ) (at : ℕ) (fault : Wrong)
-    → (length front ≤ most_bytes → front ≡ bytes)
-    → (most_bytes < length front → most_bytes < length bytes) → IsWrong front at fault
+wrong_whole : (bytes prefix : List ℕ) (at : ℕ) (fault : Wrong)
+    → (length prefix ≤ most_bytes → prefix ≡ bytes)
+    → (most_bytes < length prefix → most_bytes < length bytes) → IsWrong prefix at fault
     → IsWrong bytes at fault
-wrong_whole bytes front at fault short long (too_long h) = too_long (long h)
-wrong_whole bytes front at fault short long (bad_line h k) =
+wrong_whole bytes prefix at fault short long (too_long h) = too_long (long h)
+wrong_whole bytes prefix at fault short long (bad_line h k) =
     subst (λ (bs : List ℕ). IsWrong bs at fault) (short h) (bad_line h k)
-wrong_whole bytes front at fault short long (missing_part h k) =
+wrong_whole bytes prefix at fault short long (missing_part h k) =
     subst (λ (bs : List ℕ). IsWrong bs at fault) (short h) (missing_part h k)
 
-pub front_refused : (bytes : List ℕ) (at code : ℕ)
+pub prefix_refused : (bytes : List ℕ) (at code : ℕ)
     → IsRefusal (take (most_bytes + 1) bytes) at code → IsRefusal bytes at code
-front_refused bytes at code r = record {
+prefix_refused bytes at code r = record {
   fault = r.fault;
   is_wrong =
-      wrong_whole bytes (take (most_bytes + 1) bytes) at r.fault (short_front most_bytes bytes)
+      wrong_whole bytes (take (most_bytes + 1) bytes) at r.fault (prefix_short most_bytes bytes)
       (long_front most_bytes bytes) r.is_wrong;
   number = r.number;
 }

@@ -15,7 +15,7 @@ use Rattle.syn_words.specs.Alphabet.{IsAlphabet}
 use Rattle.syn_words.specs.Nfa.{bare, with_initial, with_final, with_step}
 use Rattle.syn_words.proofs.Steps.{adding_a_step}
 use Rattle.automaton_file.specs.LineText.{fields, value}
-use Rattle.automaton_file.specs.Parts.{Lines, Fields, SpellsNumber, IsState, IsStatesLine, Names, SpellsStep, IsStepLine, each_once, SpellsAutomaton}
+use Rattle.automaton_file.specs.Parts.{Lines, Fields, SpellsNumber, IsState, IsStatesLine, Names, SpellsStep, IsStepLine, each_once, SpellsAutomaton, most_states}
 use Rattle.automaton_file.specs.FileText.{letter_of}
 use Rattle.automaton_file.specs.Reading.{with_marks, with_line, with_step_line, with_step_lines, automaton_of}
 use Rattle.automaton_file.proofs.Digits.{value_decimal}
@@ -65,12 +65,12 @@ length-row row (f ∷ fs) =
     length-row (slice_set row (value f) true) fs ∙ length-set row (value f) true
 
 -- a field that spells a state spells the number that it has
-state_value : (states p : ℕ) (field : List ℕ) → states ≤ 1000 → IsState states field
+state_value : (states p : ℕ) (field : List ℕ) → states ≤ most_states → IsState states field
     → value field ≡ p → SpellsNumber p field
 state_value states p field few (q, below, spelled) e =
     spelled ∙ ap decimal (sym (value_decimal q (omega arith)) ∙ sym (ap value spelled) ∙ e)
 
-marked_is : (row : List Bool) (states : ℕ) (fs : Fields) (p : ℕ) → states ≤ 1000
+marked_is : (row : List Bool) (states : ℕ) (fs : Fields) (p : ℕ) → states ≤ most_states
     → All (IsState states) fs → IsTrue (is_marked (row_with row fs) p)
     → IsTrue (is_marked row p) ⊎ Any (SpellsNumber p) fs
 marked_is row states [] p few each h = inl h
@@ -117,7 +117,7 @@ is_marked_with row (f ∷ fs) p small within h =
     by (inr any) = spelled (any_cases (SpellsNumber p) f fs any)
 
 -- a row without marks, with those of a line
-row_of_line : (word line : List ℕ) (states p : ℕ) → states ≤ 1000 → IsStatesLine word states line
+row_of_line : (word line : List ℕ) (states p : ℕ) → states ≤ most_states → IsStatesLine word states line
     → p < states
     → IsTrue (is_marked (row_with (replicate states false) (drop 1 (fields line))) p) ↔ Names line p
 row_of_line word line states p few h within = (
@@ -178,7 +178,7 @@ same_letter alphabet a b is ha hb e = by (cases_order a b)
 
 -- a line spells one step
 one_step : (alphabet : List ℕ) (states p a q x b y : ℕ) (line : List ℕ) → IsAlphabet alphabet
-    → states ≤ 1000 → SpellsStep alphabet states p a q line → SpellsStep alphabet states x b y line
+    → states ≤ most_states → SpellsStep alphabet states p a q line → SpellsStep alphabet states x b y line
     → (p ≡ x) × (a ≡ b) × (q ≡ y)
 one_step alphabet states p a q x b y line is few h k =
     let e : decimal p ∷ (slice_index alphabet a ∷ []) ∷ decimal q ∷ [] ≡ decimal x ∷
@@ -192,7 +192,7 @@ one_step alphabet states p a q x b y line is few h k =
     )
 
 line_step : (alphabet : List ℕ) (states p a q : ℕ) (m : Automaton) (line : List ℕ)
-    → IsAlphabet alphabet → states ≤ 1000 → SpellsStep alphabet states p a q line
+    → IsAlphabet alphabet → states ≤ most_states → SpellsStep alphabet states p a q line
     → with_step_line alphabet m (fields line) ≡ with_step m p a q
 line_step alphabet states p a q m line is few h =
     ap (with_step_line alphabet m) h.stands
@@ -204,7 +204,7 @@ line_step alphabet states p a q m line is few h =
 
 -- the steps that the lines spell, and the automaton with them
 lines_steps : (alphabet : List ℕ) (states : ℕ) (m : Automaton) (lines : Lines)
-    → IsAlphabet alphabet → states ≤ 1000 → All (IsStepLine alphabet states) lines
+    → IsAlphabet alphabet → states ≤ most_states → All (IsStepLine alphabet states) lines
     → (xs : List Step) × AllZip (Spells alphabet states) lines xs
     × (with_step_lines alphabet m lines ≡ with_steps m xs)
 lines_steps alphabet states m [] is few each = ([], tt, refl)
@@ -253,7 +253,7 @@ spelled_among alphabet states p a q (line ∷ lines) (s ∷ xs) (h, zip) e =
     by behind (inr more) = any_there (SpellsStep alphabet states p a q) line lines (behind more)
 
 among_spelled : (alphabet : List ℕ) (states p a q : ℕ) (lines : Lines) (xs : List Step)
-    → IsAlphabet alphabet → states ≤ 1000 → AllZip (Spells alphabet states) lines xs
+    → IsAlphabet alphabet → states ≤ most_states → AllZip (Spells alphabet states) lines xs
     → Any (SpellsStep alphabet states p a q) lines → list_any (is_step p a q) xs ≡ true
 among_spelled alphabet states p a q [] xs is few zip any =
     absurd (any_nothing (SpellsStep alphabet states p a q) any)
@@ -319,7 +319,7 @@ read_as alphabet states initial final steps xs same =
 
 -- such an automaton is the one that the lines spell
 spelled_by_rows : (alphabet : List ℕ) (states : ℕ) (initial final : List ℕ) (steps : Lines)
-    (xs : List Step) → IsAlphabet alphabet → states ≤ 1000
+    (xs : List Step) → IsAlphabet alphabet → states ≤ most_states
     → IsStatesLine (codes "initial") states initial → IsStatesLine (codes "final") states final
     → AllZip (Spells alphabet states) steps xs
     → SpellsAutomaton alphabet states initial final steps
@@ -368,7 +368,7 @@ spelled_by_rows alphabet states initial final steps xs is few i f zip = record {
 
 -- the lines spell the automaton that is read
 pub read_is_spelled : (alphabet : List ℕ) (states : ℕ) (initial final : List ℕ) (steps : Lines)
-    → IsAlphabet alphabet → states ≤ 1000
+    → IsAlphabet alphabet → states ≤ most_states
     → IsStatesLine (codes "initial") states initial → IsStatesLine (codes "final") states final
     → All (IsStepLine alphabet states) steps
     → SpellsAutomaton alphabet states initial final steps
@@ -394,7 +394,7 @@ same_row xs ys n P hx hy tx ty =
     ∙ sym (get_or_default ys k d false (omega arith)))
 
 same_steps : (alphabet : List ℕ) (states : ℕ) (lines : Lines) (xs ys : List Step)
-    → IsAlphabet alphabet → states ≤ 1000 → AllZip (Spells alphabet states) lines xs
+    → IsAlphabet alphabet → states ≤ most_states → AllZip (Spells alphabet states) lines xs
     → AllZip (Spells alphabet states) lines ys → xs ≡ ys
 same_steps alphabet states [] [] [] is few h k = refl
 same_steps alphabet states [] [] (y ∷ ys) is few h k = elim k [ ]
@@ -418,7 +418,7 @@ same_fields m n e f g h i =
     ∙ ap (λ (x : List Step). record n { steps = x }) i
 
 pub one_spelled : (alphabet : List ℕ) (states : ℕ) (initial final : List ℕ) (steps : Lines)
-    (m n : Automaton) → IsAlphabet alphabet → states ≤ 1000
+    (m n : Automaton) → IsAlphabet alphabet → states ≤ most_states
     → SpellsAutomaton alphabet states initial final steps m
     → SpellsAutomaton alphabet states initial final steps n → m ≡ n
 one_spelled alphabet states initial final steps m n is few h k =

@@ -1,6 +1,7 @@
 -- Whether a text spells an expression.
 use Rattle.std.specs.Prelude.{ℕ, zero, suc, Bool, true, not, ◌&&◌, ◌==◌, is_none, List, length}
-use Rattle.expression_theory.specs.Scan.{Class, classes, failing_at, due_from, depth}
+use Rattle.expression_theory.specs.Scan.{classes, failing_at, due_from, depth}
+use Rattle.expression_theory.specs.declared.signs.Class.{Class}
 
 -- no test of the scan fails at the first n bytes
 abbrev pub is_clear : List Class → ℕ → Bool

@@ -19,6 +19,7 @@ use Rattle.automaton_file.specs.declared.sources.FileFault.TheVariants.{Refused,
 use Rattle.automaton_file.specs.LineText.{text_lines, is_plain, fields, is_significant, parts, behind_first, number_below}
 use Rattle.automaton_file.specs.ExprText.{is_expression}
 use Rattle.automaton_file.specs.Parts.{most_states, Lines, Fields, IsHeader, SpellsAlphabet, SpellsCount, SpellsExpression, IsStatesLine, IsStepLine, SpellsAutomaton}
+use Rattle.expression_theory.specs.Scan.{is_lower_case}
 
 -- the most bytes that an input may have
 abbrev pub most_bytes : ℕ
@@ -108,9 +109,6 @@ pub record IsSoundSource (source : SourceText) : Type 0 where
 -- The tests of a line, and what is wrong where one fails. The laws `each_line_is_its_part` and
 -- `each_test_says_what_must_stand` say what they test.
 
-abbrev pub is_lower_case : ℕ → Bool
-is_lower_case b = nat_le 97 b && nat_le b 122
-
 abbrev pub are_distinct : List ℕ → Bool
 are_distinct [] = true
 are_distinct (b ∷ more) = not (list_any (λ c. c == b) more) && are_distinct more
@@ -133,10 +131,10 @@ begins_with word (field ∷ more) = bytes_eq field word
 abbrev pub is_expr : Fields → Bool
 is_expr line = begins_with (codes "expr") line
 
--- the count of states that fields spell: one number from 1 to 1,000, and else 0
+-- the count of states that fields spell: one number from 1 to the most states, and else 0
 abbrev pub count_of : Fields → ℕ
 count_of [] = 0
-count_of (number ∷ []) = unwrap_or (number_below 1001 number) 0
+count_of (number ∷ []) = unwrap_or (number_below (most_states + 1) number) 0
 count_of (number ∷ other ∷ more) = 0
 
 -- the count of states of a body line `nfa`

@@ -32,7 +32,7 @@ fn field_end(text: &[u8]) -> Option<usize>
     text.iter().position(|b| is_blank(*b))
 }
 
-/// The length of the run without spaces and tabs at the front.
+/// The length of the longest prefix without spaces and tabs.
 fn run_len(text: &[u8]) -> usize
     ensures { result ≡ position_or_len is_blank text.now }
 {

@@ -1,14 +1,14 @@
 //! Laws of file texts.
 
-ghost use Rattle.std.specs.Prelude.{◌≡◌, ◌⊎◌, ◌↔◌, ◌≤◌, ℕ, ◌+◌, true, is_some, None, IsTrue, List, ◌∷◌, take};
+ghost use Rattle.std.specs.Prelude.{◌≡◌, ◌⊎◌, ◌↔◌, ◌≤◌, ℕ, ◌+◌, is_some, None, IsTrue, List, ◌∷◌, take};
 ghost use Rattle.expression_theory.specs.Expression.{Tree};
-ghost use Rattle.expression_theory.specs.Scan.{classes, IsAccepted};
-ghost use Rattle.syn_words.specs.Alphabet.{IsAlphabet};
+ghost use Rattle.expression_theory.specs.Scan.{is_lower_case, classes, IsAccepted};
+ghost use Rattle.syn_words.specs.Alphabet.{IsLowerCase, AreDistinct, IsAlphabet};
 ghost use Rattle.automaton_file.specs.LineText.{fields};
 ghost use Rattle.automaton_file.specs.ExprText.{is_expression};
 ghost use Rattle.automaton_file.specs.Examples.{worked_text, worked_source, refused_text};
 ghost use Rattle.automaton_file.specs.Parts.{most_states, Fields, IsState, IsLetter, IsHeader, SpellsAlphabet, SpellsCount, SpellsExpression, IsStatesLine, IsStepLine};
-ghost use Rattle.automaton_file.specs.FileText.{most_bytes, is_alphabet, begins_with, is_state, letter_of, header_fault, alphabet_fault, body_fault, marks_fault, step_fault, SourceText, BodyText, body_language, IsSource, IsRefusal, IsSameAutomaton, IsBodyAutomaton};
+ghost use Rattle.automaton_file.specs.FileText.{most_bytes, are_distinct, is_alphabet, begins_with, is_state, letter_of, header_fault, alphabet_fault, body_fault, marks_fault, step_fault, SourceText, BodyText, body_language, IsSource, IsRefusal, IsSameAutomaton, IsBodyAutomaton};
 ghost use Rattle.language_theory.specs.Automaton.{Automaton, Accepts, SameSubset};
 
 /// A line passes its tests exactly where it is the part that must stand there.
@@ -29,6 +29,8 @@ pub fn each_line_is_its_part()
 pub fn each_test_says_what_must_stand()
     ensures word { (word : List ℕ) (line : Fields) → IsTrue (begins_with word line)
         ↔ ((more : Fields) × (line ≡ word ∷ more)) }
+    ensures lower { (byte : ℕ) → IsTrue (is_lower_case byte) ↔ IsLowerCase byte }
+    ensures distinct { (text : List ℕ) → IsTrue (are_distinct text) ↔ AreDistinct text }
     ensures alphabet { (text : List ℕ) → IsTrue (is_alphabet text) ↔ IsAlphabet text }
     ensures expression { (alphabet text : List ℕ) → IsTrue (is_expression alphabet text)
         ↔ IsAccepted (classes alphabet text) }

@@ -1,6 +1,6 @@
 //! The parts of a file, each read from its line.
 
-ghost use Rattle.std.specs.Prelude.{◌≡◌, ◌≢◌, ◌<◌, ◌≤◌, ℕ, None, Some, true, false, [], ◌∷◌, length, MatchOption, MatchResult, IfOk, IfErr, OnOk};
+ghost use Rattle.std.specs.Prelude.{◌≡◌, ◌≢◌, ◌<◌, None, Some, true, false, [], ◌∷◌, length, MatchOption, MatchResult, IfOk, IfErr, OnOk};
 ghost use Rattle.std.specs.List.{list_all, concat};
 ghost use Rattle.syn_words.specs.Alphabet.{IsAlphabet};
 ghost use Rattle.expression_theory.specs.Scan.{classes, SpellsTree};
@@ -17,6 +17,9 @@ use crate::sources::Wrong;
 use regex_reader::{Expr, read_expr};
 use std::alloc::Global;
 use syn_words::{Alphabet, AlphabetFault, Memory, Nfa};
+
+/// The most states that the automaton of a file may have.
+const MOST_STATES: u32 = 1000;
 
 /// The body that a body line begins.
 #[derive(Drop)]
@@ -119,7 +122,7 @@ fn read_count(text: &[u8]) -> u32
     ensures { result ≡ count_of (fields text.now) }
 {
     match one_field(text) {
-        Some(number) => number_below(1001, number).unwrap_or(0),
+        Some(number) => number_below(MOST_STATES + 1, number).unwrap_or(0),
         None => 0,
     }
 }

@@ -5,7 +5,7 @@ use Rattle.std.proofs.lemmas.Bool.{both_ways}
 use Rattle.std.proofs.lemmas.Bool.Decides.{Decides-and, Decides-or, Decides-eqb}
 use Rattle.language_theory.specs.Automaton.{is_initial, is_final, has_step}
 use Rattle.expression_theory.specs.Expression.{Tree, Letter, Cat, Star, nothing}
-use Rattle.expression_theory.specs.Positions.{numbered, SignWord, Begins, Ends, letter_of, StepsTo, IsFinalPosition, IsPositions}
+use Rattle.expression_theory.specs.Positions.{numbered, PositionWord, Begins, Ends, letter_of, StepsTo, IsFinalPosition, IsPositions}
 use Rattle.expression_theory.specs.Examples.{ab_star_positions}
 use Rattle.expression_theory.proofs.FirstLast.{firsts_decide, lasts_decide, follows_decide}
 
@@ -13,7 +13,7 @@ use Rattle.expression_theory.proofs.FirstLast.{firsts_decide, lasts_decide, foll
 abbrev tree : Tree
 tree = Star (Cat (Letter 0) (Letter 1))
 
--- a step leads from p to the sign q of the letter a
+-- a step leads from p to the position q, where the letter is a
 abbrev Steps : (p a q : ℕ) → Type 0
 Steps p a q = StepsTo tree p q × (letter_of tree q ≡ a)
 
@@ -49,7 +49,7 @@ rows_step p a q (inr (inr (inl (e, (f, g))))) = at p a q 2 0 1 e f g ((follows_d
 rows_step p a q (inr (inr (inr h))) = absurd h
 
 -- what begins is a
-begins_a : (q : ℕ) → Begins (SignWord tree) q → 1 ≡ q
+begins_a : (q : ℕ) → Begins (PositionWord tree) q → 1 ≡ q
 begins_a q h = by ((listed 1 q).0 ((firsts_decide (numbered 1 tree) q).1 h))
   where
     by : (1 ≡ q) ⊎ ⊥ → 1 ≡ q
@@ -88,7 +88,7 @@ initial (suc (suc zero)) = (λ e. absurd (both_ways false refl e), λ e. absurd 
 initial (suc (suc (suc p))) = (λ e. absurd (both_ways false refl e), λ e. absurd (omega arith))
 
 -- what ends is b
-ends_b : (p : ℕ) → Ends (SignWord tree) p → 2 ≡ p
+ends_b : (p : ℕ) → Ends (PositionWord tree) p → 2 ≡ p
 ends_b p h = by ((listed 2 p).0 ((lasts_decide (numbered 1 tree) p).1 h))
   where
     by : (2 ≡ p) ⊎ ⊥ → 2 ≡ p

@@ -2,14 +2,14 @@
 use Rattle.std.proofs.Common.{ℕ, suc, zero, ◌+◌, ◌<◌, List, [], ◌∷◌, ◌++◌, length, refl, sym, subst, append_assoc, arith, ◌↔◌}
 use Rattle.language_theory.specs.Automaton.{Automaton, AcceptsFrom, Accepts}
 use Rattle.expression_theory.specs.Expression.{Tree, Means}
-use Rattle.expression_theory.specs.Positions.{signs, SignWord, StepsTo, IsPositions}
+use Rattle.expression_theory.specs.Positions.{positions, PositionWord, StepsTo, IsPositions}
 use Rattle.expression_theory.proofs.Exchange.{between}
 use Rattle.expression_theory.proofs.Runs.{RunsFrom, positions_accept}
 
--- a step leads to a sign of the expression
-pub steps_below : (t : Tree) (p q : ℕ) → StepsTo t p q → q < 1 + length (signs t)
+-- a step leads to a position of the expression
+pub steps_below : (t : Tree) (p q : ℕ) → StepsTo t p q → q < 1 + length (positions t)
 steps_below t zero q (w, h) = (between 1 t q [] w h).1
-steps_below t (suc p) q (u, v, h) = (between 1 t q (u ++ suc p ∷ []) v (subst (SignWord t) (sym (append_assoc u (suc p ∷ []) (q ∷ v))) h)).1
+steps_below t (suc p) q (u, v, h) = (between 1 t q (u ++ suc p ∷ []) v (subst (PositionWord t) (sym (append_assoc u (suc p ∷ []) (q ∷ v))) h)).1
 
 runs_of : (t : Tree) (k : ℕ) (m : Automaton) → IsPositions t k m → (w : List ℕ) (p : ℕ) → AcceptsFrom m w p → RunsFrom t w p
 runs_of t k m h [] p f = (h.final p).0 f

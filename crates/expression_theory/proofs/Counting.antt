@@ -4,8 +4,9 @@ use Rattle.std.proofs.lemmas.List.{take_more, take_all}
 use Rattle.std.proofs.lemmas.Bool.{cases_lt}
 use Rattle.std.proofs.lemmas.Bool.Decides.{Decides-ltb}
 use Rattle.expression_theory.specs.Grammar.{Operand, Bar, Postfix, Open, Close}
-use Rattle.expression_theory.specs.Scan.{Class, Skipped, Unknown, Strange, Good, Unexpected, TooLarge, TooDeep, due_by, due_from, opens, closes, depth, depth_by, cost, nodes_from, size_test, failing, failing_at, IsAccepted}
+use Rattle.expression_theory.specs.Scan.{Class, Skipped, Unknown, Strange, Good, Unexpected, TooLarge, TooDeep, due_by, due_from, opens, closes, depth, depth_by, cost, nodes_from, size_test, failing, failing_at, IsAccepted, most_open}
 use Rattle.expression_theory.proofs.Accepted.{due_push, nodes_push, counts_push}
+use Rattle.expression_theory.specs.Expression.{most_nodes}
 
 -- after i bytes: whether an operand is due, the open parentheses, the nodes, and no failing test so far
 pub record IsScanned (cs : List Class) (i : ℕ) (d : Bool) (o n : ℕ) : Type 0 where
@@ -13,8 +14,8 @@ pub record IsScanned (cs : List Class) (i : ℕ) (d : Bool) (o n : ℕ) : Type 0
   pub level : o ≡ depth (take i cs)
   pub nodes : n ≡ nodes_from true (take i cs)
   pub balanced : closes (take i cs) ≤ opens (take i cs)
-  pub shallow : o ≤ 200
-  pub small : n ≤ 4000
+  pub shallow : o ≤ most_open
+  pub small : n ≤ most_nodes
   pub clear : (j : ℕ) → j < i → failing_at cs j ≡ None
 
 -- the test at the next byte, by what is known
@@ -24,25 +25,25 @@ scanned_here cs i d o n h =
     ∙ ap (λ x. failing d x (nodes_from true (take i cs)) (get_or cs i Strange)) (sym h.level)
     ∙ ap (λ x. failing d o x (get_or cs i Strange)) (sym h.nodes)
 
-size_small : (n : ℕ) → size_test n ≡ None → n ≤ 4000
-size_small n e = by (cases_lt 4000 n)
+size_small : (n : ℕ) → size_test n ≡ None → n ≤ most_nodes
+size_small n e = by (cases_lt most_nodes n)
   where
-    by : (4000 < n) ⊎ (n ≤ 4000) → n ≤ 4000
-    by (inl h) = absurd (let f : Some TooLarge ≡ None = sym (ap (λ b. cond b (Some TooLarge) None) ((Decides-ltb 4000 n).1 h)) ∙ e in cc)
+    by : (most_nodes < n) ⊎ (n ≤ most_nodes) → n ≤ most_nodes
+    by (inl h) = absurd (let f : Some TooLarge ≡ None = sym (ap (λ b. cond b (Some TooLarge) None) ((Decides-ltb most_nodes n).1 h)) ∙ e in cc)
     by (inr h) = h
 
-after_due : (d : Bool) (n : ℕ) → cond d (Some Unexpected) (size_test n) ≡ None → n ≤ 4000
+after_due : (d : Bool) (n : ℕ) → cond d (Some Unexpected) (size_test n) ≡ None → n ≤ most_nodes
 after_due true n e = absurd (let f : Some Unexpected ≡ None = e in cc)
 after_due false n e = size_small n e
 
-after_deep : (o n : ℕ) → cond (nat_lt o 200) (size_test n) (Some TooDeep) ≡ None → (o < 200) × (n ≤ 4000)
-after_deep o n e = by (nat_lt o 200) refl
+after_deep : (o n : ℕ) → cond (nat_lt o most_open) (size_test n) (Some TooDeep) ≡ None → (o < most_open) × (n ≤ most_nodes)
+after_deep o n e = by (nat_lt o most_open) refl
   where
-    by : (b : Bool) → nat_lt o 200 ≡ b → (o < 200) × (n ≤ 4000)
-    by true f = ((Decides-ltb o 200).0 f, size_small n (ap (λ b. cond b (size_test n) (Some TooDeep)) (sym f) ∙ e))
+    by : (b : Bool) → nat_lt o most_open ≡ b → (o < most_open) × (n ≤ most_nodes)
+    by true f = ((Decides-ltb o most_open).0 f, size_small n (ap (λ b. cond b (size_test n) (Some TooDeep)) (sym f) ∙ e))
     by false f = absurd (let g : Some TooDeep ≡ None = ap (λ b. cond b (size_test n) (Some TooDeep)) (sym f) ∙ e in cc)
 
-fits : (d : Bool) (o n : ℕ) (c : Class) → o ≤ 200 → n ≤ 4000 → failing d o n c ≡ None → (depth_by o c ≤ 200) × (n + cost d c ≤ 4000)
+fits : (d : Bool) (o n : ℕ) (c : Class) → o ≤ most_open → n ≤ most_nodes → failing d o n c ≡ None → (depth_by o c ≤ most_open) × (n + cost d c ≤ most_nodes)
 fits d o n Skipped h k e = (h, omega arith)
 fits d o n Unknown h k e = (h, omega arith)
 fits d o n Strange h k e = (h, omega arith)

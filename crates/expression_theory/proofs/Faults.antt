@@ -3,9 +3,9 @@ use Rattle.std.proofs.Common.{◌≡◌, ◌≢◌, ℕ, zero, suc, ◌+◌, ◌
 use Rattle.std.proofs.lemmas.List.{append-nil}
 use Rattle.std.proofs.lemmas.Bool.{cases_lt}
 use Rattle.std.proofs.lemmas.Bool.Decides.{eqb_tells}
-use Rattle.expression_theory.specs.Expression.{Tree}
+use Rattle.expression_theory.specs.Expression.{Tree, most_nodes}
 use Rattle.expression_theory.specs.Grammar.{Sign, Operand, Bar, Postfix, Open, Close}
-use Rattle.expression_theory.specs.Scan.{Class, Skipped, Unknown, Strange, Good, FaultKind, Unexpected, UnknownLetter, TooDeep, TooLarge, signs_in, due_by, due_from, opens, closes, depth, depth_by, cost, nodes_from, size_test, failing, failing_after, failing_at, EndsWell, IsAccepted, IsFault, visible, SpellsTree}
+use Rattle.expression_theory.specs.Scan.{Class, Skipped, Unknown, Strange, Good, FaultKind, Unexpected, UnknownLetter, TooDeep, TooLarge, signs_in, due_by, due_from, opens, closes, depth, depth_by, cost, nodes_from, size_test, failing, failing_after, failing_at, EndsWell, IsAccepted, IsFault, visible, SpellsTree, most_open}
 use Rattle.expression_theory.proofs.Passing.{Passes}
 use Rattle.expression_theory.proofs.Converse.{spells_passes}
 use Rattle.expression_theory.proofs.Accepted.{due_push, counts_push}
@@ -66,14 +66,14 @@ abbrev pub IsLimit : FaultKind → Type 0
 IsLimit k = (k ≡ TooDeep) ⊎ (k ≡ TooLarge)
 
 size_limit : (n : ℕ) (k : FaultKind) → size_test n ≡ Some k → IsLimit k
-size_limit n k = by (nat_lt 4000 n)
+size_limit n k = by (nat_lt most_nodes n)
   where
     by : (b : Bool) → cond b (Some TooLarge) None ≡ Some k → IsLimit k
     by true e = inr (let f : Some TooLarge ≡ Some k = e in cc)
     by false e = absurd (let f : None ≡ Some k = e in cc)
 
-depth_limit : (o n : ℕ) (k : FaultKind) → cond (nat_lt o 200) (size_test n) (Some TooDeep) ≡ Some k → IsLimit k
-depth_limit o n k = by (nat_lt o 200)
+depth_limit : (o n : ℕ) (k : FaultKind) → cond (nat_lt o most_open) (size_test n) (Some TooDeep) ≡ Some k → IsLimit k
+depth_limit o n k = by (nat_lt o most_open)
   where
     by : (b : Bool) → cond b (size_test n) (Some TooDeep) ≡ Some k → IsLimit k
     by true e = size_limit n k e

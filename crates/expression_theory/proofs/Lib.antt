@@ -1,3 +1,4 @@
+pub mod Ab
 pub mod Words
 pub mod Exchange
 pub mod Relabel

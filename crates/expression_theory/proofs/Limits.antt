@@ -1,9 +1,12 @@
 -- The least texts beyond the two limits.
-use Rattle.std.proofs.Common.{◌≡◌, ℕ, zero, suc, ◌+◌, ◌<◌, Bool, true, false, cond, inl, Some, None, ◌∷◌, map, get_or, replicate, codes, refl, ap, sym, subst, ◌∙◌, arith, nat_lt}
+use Rattle.std.proofs.Common.{◌≡◌, ℕ, zero, suc, ◌+◌, ◌<◌, Bool, true, false, cond, inl, Some, None, ◌∷◌, map, get_or, replicate, codes, refl, ap, sym, subst, ◌∙◌, arith, nat_lt, ◌≤◌, ◌-◌}
 use Rattle.std.proofs.lemmas.List.{take-replicate, get_or-replicate, length-replicate}
 use Rattle.std.proofs.lemmas.Bool.Decides.{Decides-ltb}
-use Rattle.expression_theory.specs.Grammar.{Symbol, AnyTimes, Operand, Postfix, Open}
-use Rattle.expression_theory.specs.Scan.{Class, Strange, Good, Unexpected, TooLarge, TooDeep, due_from, opens, closes, depth, nodes_from, size_test, failing, failing_after, failing_at, class_of, classes, IsFault}
+use Rattle.expression_theory.specs.Grammar.{Operand, Postfix, Open}
+use Rattle.expression_theory.specs.Scan.{Class, Strange, Good, Unexpected, TooLarge, TooDeep, due_from, opens, closes, depth, nodes_from, size_test, failing, failing_after, failing_at, class_of, classes, IsFault, most_open}
+use Rattle.expression_theory.specs.Expression.{most_nodes}
+use Rattle.expression_theory.specs.declared.signs.Leaf.TheVariants as leaf
+use Rattle.expression_theory.specs.declared.signs.Quantifier.TheVariants as quantifier
 
 -- the classes of one byte n times
 map_replicate : (f : ℕ → Class) (n b : ℕ) → map f (replicate n b) ≡ replicate n (f b)
@@ -40,57 +43,57 @@ at_open n i h =
     ∙ ap (λ c. failing_after (replicate i (Good Open)) c) (get_or-replicate n i (Good Open) Strange h)
     ∙ behind_open i
 
-open_fault : IsFault (replicate 201 (Good Open)) TooDeep 200
+open_fault : IsFault (replicate (most_open + 1) (Good Open)) TooDeep most_open
 open_fault = record {
-  before = λ i h. at_open 201 i (omega arith) ∙ ap (λ b. cond b None (Some TooDeep)) ((Decides-ltb i 200).1 h);
-  here = inl (let e = length-replicate 201 (Good Open) in omega arith, at_open 201 200 (omega arith));
+  before = λ i h. at_open (most_open + 1) i (omega arith) ∙ ap (λ b. cond b None (Some TooDeep)) ((Decides-ltb i most_open).1 h);
+  here = inl (let e = length-replicate (most_open + 1) (Good Open) in omega arith, at_open (most_open + 1) most_open (omega arith));
 }
 
--- 201 times `(`
-pub too_deep : IsFault (classes (codes "ab") (replicate 201 40)) TooDeep 200
-too_deep = subst (λ cs. IsFault cs TooDeep 200) (sym (map_replicate (class_of (codes "ab")) 201 40)) open_fault
+-- one `(` too many
+pub too_deep : IsFault (classes (codes "ab") (replicate (most_open + 1) 40)) TooDeep most_open
+too_deep = subst (λ cs. IsFault cs TooDeep most_open) (sym (map_replicate (class_of (codes "ab")) (most_open + 1) 40)) open_fault
 
 -- n times `*`
-due_star : (n : ℕ) → due_from false (replicate n (Good (Postfix AnyTimes))) ≡ false
+due_star : (n : ℕ) → due_from false (replicate n (Good (Postfix quantifier.Star))) ≡ false
 due_star zero = refl
 due_star (suc n) = due_star n
 
-nodes_star : (n : ℕ) → nodes_from false (replicate n (Good (Postfix AnyTimes))) ≡ n
+nodes_star : (n : ℕ) → nodes_from false (replicate n (Good (Postfix quantifier.Star))) ≡ n
 nodes_star zero = refl
 nodes_star (suc n) = let e = nodes_star n in omega arith
 
-behind_star : (i : ℕ) → failing_after (Good (Operand (Symbol 0)) ∷ replicate i (Good (Postfix AnyTimes))) (Good (Postfix AnyTimes)) ≡ size_test (i + 2)
+behind_star : (i : ℕ) → failing_after (Good (Operand (leaf.Letter 0)) ∷ replicate i (Good (Postfix quantifier.Star))) (Good (Postfix quantifier.Star)) ≡ size_test (i + 2)
 behind_star i =
-    let e : 1 + nodes_from false (replicate i (Good (Postfix AnyTimes))) + 1 ≡ i + 2 = let f = nodes_star i in omega arith in
-    ap (λ d. cond d (Some Unexpected) (size_test (1 + nodes_from false (replicate i (Good (Postfix AnyTimes))) + 1))) (due_star i)
+    let e : 1 + nodes_from false (replicate i (Good (Postfix quantifier.Star))) + 1 ≡ i + 2 = let f = nodes_star i in omega arith in
+    ap (λ d. cond d (Some Unexpected) (size_test (1 + nodes_from false (replicate i (Good (Postfix quantifier.Star))) + 1))) (due_star i)
     ∙ ap size_test e
 
-at_star : (n i : ℕ) → i < n → failing_at (Good (Operand (Symbol 0)) ∷ replicate n (Good (Postfix AnyTimes))) (suc i) ≡ size_test (i + 2)
+at_star : (n i : ℕ) → i < n → failing_at (Good (Operand (leaf.Letter 0)) ∷ replicate n (Good (Postfix quantifier.Star))) (suc i) ≡ size_test (i + 2)
 at_star n i h =
-    ap (λ before. failing_after (Good (Operand (Symbol 0)) ∷ before) (get_or (replicate n (Good (Postfix AnyTimes))) i Strange))
-    (take-replicate i n (Good (Postfix AnyTimes)) (omega arith))
-    ∙ ap (λ c. failing_after (Good (Operand (Symbol 0)) ∷ replicate i (Good (Postfix AnyTimes))) c)
-    (get_or-replicate n i (Good (Postfix AnyTimes)) Strange h)
+    ap (λ before. failing_after (Good (Operand (leaf.Letter 0)) ∷ before) (get_or (replicate n (Good (Postfix quantifier.Star))) i Strange))
+    (take-replicate i n (Good (Postfix quantifier.Star)) (omega arith))
+    ∙ ap (λ c. failing_after (Good (Operand (leaf.Letter 0)) ∷ replicate i (Good (Postfix quantifier.Star))) c)
+    (get_or-replicate n i (Good (Postfix quantifier.Star)) Strange h)
     ∙ behind_star i
 
-size_small : (n : ℕ) → n < 4001 → size_test n ≡ None
-size_small n h = ap (λ b. cond b (Some TooLarge) None) (ltb_false (nat_lt 4000 n) refl)
+size_small : (n : ℕ) → n ≤ most_nodes → size_test n ≡ None
+size_small n h = ap (λ b. cond b (Some TooLarge) None) (ltb_false (nat_lt most_nodes n) refl)
   where
-    ltb_false : (b : Bool) → nat_lt 4000 n ≡ b → nat_lt 4000 n ≡ false
-    ltb_false true e = let f = (Decides-ltb 4000 n).0 e in absurd (omega arith)
+    ltb_false : (b : Bool) → nat_lt most_nodes n ≡ b → nat_lt most_nodes n ≡ false
+    ltb_false true e = let f = (Decides-ltb most_nodes n).0 e in absurd (omega arith)
     ltb_false false e = e
 
-star_fault : IsFault (Good (Operand (Symbol 0)) ∷ replicate 4000 (Good (Postfix AnyTimes))) TooLarge 4000
+star_fault : IsFault (Good (Operand (leaf.Letter 0)) ∷ replicate most_nodes (Good (Postfix quantifier.Star))) TooLarge most_nodes
 star_fault = record {
   before = before;
-  here = inl (let e = length-replicate 4000 (Good (Postfix AnyTimes)) in omega arith, at_star 4000 3999 (omega arith));
+  here = inl (let e = length-replicate most_nodes (Good (Postfix quantifier.Star)) in omega arith, at_star most_nodes (most_nodes - 1) (omega arith));
 }
   where
-    before : (i : ℕ) → i < 4000 → failing_at (Good (Operand (Symbol 0)) ∷ replicate 4000 (Good (Postfix AnyTimes))) i ≡ None
+    before : (i : ℕ) → i < most_nodes → failing_at (Good (Operand (leaf.Letter 0)) ∷ replicate most_nodes (Good (Postfix quantifier.Star))) i ≡ None
     before zero h = refl
-    before (suc i) h = at_star 4000 i (omega arith) ∙ size_small (i + 2) (omega arith)
+    before (suc i) h = at_star most_nodes i (omega arith) ∙ size_small (i + 2) (omega arith)
 
--- a and 4,000 times `*`
-pub too_large : IsFault (classes (codes "ab") (97 ∷ replicate 4000 42)) TooLarge 4000
+-- a, and as many `*` as nodes are allowed
+pub too_large : IsFault (classes (codes "ab") (97 ∷ replicate most_nodes 42)) TooLarge most_nodes
 too_large =
-    subst (λ cs. IsFault cs TooLarge 4000) (ap (λ r. Good (Operand (Symbol 0)) ∷ r) (sym (map_replicate (class_of (codes "ab")) 4000 42))) star_fault
+    subst (λ cs. IsFault cs TooLarge most_nodes) (ap (λ r. Good (Operand (leaf.Letter 0)) ∷ r) (sym (map_replicate (class_of (codes "ab")) most_nodes 42))) star_fault

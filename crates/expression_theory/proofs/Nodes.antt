@@ -2,10 +2,12 @@
 use Rattle.std.proofs.Common.{◌≡◌, ℕ, ◌+◌, Bool, true, false, cond, List, [], ◌∷◌, ◌++◌, refl, ap, append_assoc, arith}
 use Rattle.std.proofs.Common.{length, length-append, ◌≤◌}
 use Rattle.std.proofs.lemmas.List.{append-nil}
-use Rattle.expression_theory.specs.Positions.{signs}
+use Rattle.expression_theory.specs.Positions.{positions}
 use Rattle.expression_theory.specs.Expression.{Tree, Zero, One, Letter, Or, Cat, Star, Plus, Opt, nodes}
-use Rattle.expression_theory.specs.Grammar.{Leaf, NoWord, EmptyWord, Symbol, leaf_tree, Quantifier, AnyTimes, OnceOrMore, AtMostOnce, applied, Sign, Operand, Bar, Postfix, Open, Close, Level, Atom, Piece, Sequence, Union, Spells, operand, inside, atom, postfix, one_piece, next_piece, one_sequence, next_sequence}
+use Rattle.expression_theory.specs.Grammar.{Leaf, leaf_tree, Quantifier, applied, Sign, Operand, Bar, Postfix, Open, Close, Level, Atom, Piece, Sequence, Union, Spells, operand, inside, atom, postfix, one_piece, next_piece, one_sequence, next_sequence}
 use Rattle.expression_theory.specs.Scan.{Class, Skipped, Unknown, Strange, Good, signs_in, due_by, cost, nodes_from}
+use Rattle.expression_theory.specs.declared.signs.Leaf.TheVariants as leaf
+use Rattle.expression_theory.specs.declared.signs.Quantifier.TheVariants as quantifier
 
 -- the count over signs alone
 abbrev pub counted : Bool → List Sign → ℕ
@@ -25,9 +27,9 @@ abbrev pub Adds : List Sign → Tree → Type 0
 Adds w t = (d : Bool) (rest : List Sign) → counted d (w ++ rest) ≡ nodes t + cond d 0 1 + counted false rest
 
 leaf_node : (x : Leaf) → nodes (leaf_tree x) ≡ 1
-leaf_node NoWord = refl
-leaf_node EmptyWord = refl
-leaf_node (Symbol a) = refl
+leaf_node leaf.Zero = refl
+leaf_node leaf.One = refl
+leaf_node (leaf.Letter a) = refl
 
 adds_operand : (x : Leaf) → Adds (Operand x ∷ []) (leaf_tree x)
 adds_operand x true rest = let e = leaf_node x in omega arith
@@ -38,9 +40,9 @@ adds_inside w t h true rest = let e = h true (Close ∷ rest) in let f = ap (cou
 adds_inside w t h false rest = let e = h true (Close ∷ rest) in let f = ap (counted true) (append_assoc w (Close ∷ []) rest) in omega arith
 
 nodes_applied : (m : Quantifier) (t : Tree) → nodes (applied m t) ≡ nodes t + 1
-nodes_applied AnyTimes t = refl
-nodes_applied OnceOrMore t = refl
-nodes_applied AtMostOnce t = refl
+nodes_applied quantifier.Star t = refl
+nodes_applied quantifier.Plus t = refl
+nodes_applied quantifier.Opt t = refl
 
 adds_postfix : (w : List Sign) (t : Tree) (m : Quantifier) → Adds w t → Adds (w ++ Postfix m ∷ []) (applied m t)
 adds_postfix w t m h d rest =
@@ -72,13 +74,13 @@ nodes_counted cs t s =
     let g = counted_signs true cs in
     omega arith
 
--- a tree has no more signs than nodes
-pub signs_within : (t : Tree) → length (signs t) ≤ nodes t
-signs_within Zero = omega arith
-signs_within One = omega arith
-signs_within (Letter a) = omega arith
-signs_within (Or s t) = let e = signs_within s in let f = signs_within t in omega (arith, length-append (signs s) (signs t))
-signs_within (Cat s t) = let e = signs_within s in let f = signs_within t in omega (arith, length-append (signs s) (signs t))
-signs_within (Star t) = let e = signs_within t in omega arith
-signs_within (Plus t) = let e = signs_within t in omega arith
-signs_within (Opt t) = let e = signs_within t in omega arith
+-- a tree has no more positions than nodes
+pub positions_within : (t : Tree) → length (positions t) ≤ nodes t
+positions_within Zero = omega arith
+positions_within One = omega arith
+positions_within (Letter a) = omega arith
+positions_within (Or s t) = let e = positions_within s in let f = positions_within t in omega (arith, length-append (positions s) (positions t))
+positions_within (Cat s t) = let e = positions_within s in let f = positions_within t in omega (arith, length-append (positions s) (positions t))
+positions_within (Star t) = let e = positions_within t in omega arith
+positions_within (Plus t) = let e = positions_within t in omega arith
+positions_within (Opt t) = let e = positions_within t in omega arith

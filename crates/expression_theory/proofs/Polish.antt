@@ -2,8 +2,9 @@
 use Rattle.std.proofs.Common.{◌≡◌, ℕ, zero, suc, ◌+◌, ◌≤◌, List, [], ◌∷◌, ◌++◌, length, drop, refl, ap, sym, subst, ◌∙◌, append_assoc, length-append, arith}
 use Rattle.std.proofs.lemmas.List.{append-nil}
 use Rattle.expression_theory.specs.Expression.{Tree, Zero, One, Letter, Or, Cat, Star, Plus, Opt}
-use Rattle.expression_theory.specs.Positions.{signs}
-use Rattle.expression_theory.specs.Polish.{Node, NoWord, EmptyWord, Symbol, Union, Product, AnyTimes, OnceOrMore, AtMostOnce, polish, built, trees, arity, IsNotation, letters, signs_among}
+use Rattle.expression_theory.specs.Positions.{positions}
+use Rattle.expression_theory.specs.Polish.{Node, polish, built, trees, arity, IsNotation, letters, positions_among}
+use Rattle.expression_theory.specs.declared.notation.Node.TheVariants as node
 
 -- the notation of a tree gives back the tree, whatever stands behind it
 pub trees_polish : (t : Tree) (ns : List Node) → trees (polish t ++ ns) ≡ t ∷ trees ns
@@ -11,14 +12,14 @@ trees_polish Zero ns = refl
 trees_polish One ns = refl
 trees_polish (Letter a) ns = refl
 trees_polish (Or s t) ns =
-    ap (λ ms. built Union (trees ms)) (append_assoc (polish s) (polish t) ns)
-    ∙ ap (built Union) (trees_polish s (polish t ++ ns) ∙ ap (λ ts. s ∷ ts) (trees_polish t ns))
+    ap (λ ms. built node.Or (trees ms)) (append_assoc (polish s) (polish t) ns)
+    ∙ ap (built node.Or) (trees_polish s (polish t ++ ns) ∙ ap (λ ts. s ∷ ts) (trees_polish t ns))
 trees_polish (Cat s t) ns =
-    ap (λ ms. built Product (trees ms)) (append_assoc (polish s) (polish t) ns)
-    ∙ ap (built Product) (trees_polish s (polish t ++ ns) ∙ ap (λ ts. s ∷ ts) (trees_polish t ns))
-trees_polish (Star t) ns = ap (built AnyTimes) (trees_polish t ns)
-trees_polish (Plus t) ns = ap (built OnceOrMore) (trees_polish t ns)
-trees_polish (Opt t) ns = ap (built AtMostOnce) (trees_polish t ns)
+    ap (λ ms. built node.Cat (trees ms)) (append_assoc (polish s) (polish t) ns)
+    ∙ ap (built node.Cat) (trees_polish s (polish t ++ ns) ∙ ap (λ ts. s ∷ ts) (trees_polish t ns))
+trees_polish (Star t) ns = ap (built node.Star) (trees_polish t ns)
+trees_polish (Plus t) ns = ap (built node.Plus) (trees_polish t ns)
+trees_polish (Opt t) ns = ap (built node.Opt) (trees_polish t ns)
 
 -- the notation of a tree gives the tree alone
 pub trees_of_polish : (t : Tree) → trees (polish t) ≡ t ∷ []
@@ -40,11 +41,11 @@ polish_notation : (t : Tree) (ns : List Node) → IsNotation ns → IsNotation (
 polish_notation Zero ns h = (omega arith, h)
 polish_notation One ns h = (omega arith, h)
 polish_notation (Letter a) ns h = (omega arith, h)
-polish_notation (Or s t) ns h = notation_two Union s t ns (omega arith) (polish_notation s (polish t ++ ns) (polish_notation t ns h))
-polish_notation (Cat s t) ns h = notation_two Product s t ns (omega arith) (polish_notation s (polish t ++ ns) (polish_notation t ns h))
-polish_notation (Star t) ns h = notation_one AnyTimes t ns (omega arith) (polish_notation t ns h)
-polish_notation (Plus t) ns h = notation_one OnceOrMore t ns (omega arith) (polish_notation t ns h)
-polish_notation (Opt t) ns h = notation_one AtMostOnce t ns (omega arith) (polish_notation t ns h)
+polish_notation (Or s t) ns h = notation_two node.Or s t ns (omega arith) (polish_notation s (polish t ++ ns) (polish_notation t ns h))
+polish_notation (Cat s t) ns h = notation_two node.Cat s t ns (omega arith) (polish_notation s (polish t ++ ns) (polish_notation t ns h))
+polish_notation (Star t) ns h = notation_one node.Star t ns (omega arith) (polish_notation t ns h)
+polish_notation (Plus t) ns h = notation_one node.Plus t ns (omega arith) (polish_notation t ns h)
+polish_notation (Opt t) ns h = notation_one node.Opt t ns (omega arith) (polish_notation t ns h)
 
 -- in the notation of a tree each node finds its parts
 pub is_notation : (t : Tree) → IsNotation (polish t)
@@ -59,50 +60,50 @@ notation_drop (suc i) (n ∷ ns) h = notation_drop i ns h.1
 -- letters of one notation behind another
 pub letters_append : (ms ns : List Node) → letters (ms ++ ns) ≡ letters ms ++ letters ns
 letters_append [] ns = refl
-letters_append (NoWord ∷ ms) ns = letters_append ms ns
-letters_append (EmptyWord ∷ ms) ns = letters_append ms ns
-letters_append (Symbol a ∷ ms) ns = ap (λ w. a ∷ w) (letters_append ms ns)
-letters_append (Union ∷ ms) ns = letters_append ms ns
-letters_append (Product ∷ ms) ns = letters_append ms ns
-letters_append (AnyTimes ∷ ms) ns = letters_append ms ns
-letters_append (OnceOrMore ∷ ms) ns = letters_append ms ns
-letters_append (AtMostOnce ∷ ms) ns = letters_append ms ns
+letters_append (node.Zero ∷ ms) ns = letters_append ms ns
+letters_append (node.One ∷ ms) ns = letters_append ms ns
+letters_append (node.Letter a ∷ ms) ns = ap (λ w. a ∷ w) (letters_append ms ns)
+letters_append (node.Or ∷ ms) ns = letters_append ms ns
+letters_append (node.Cat ∷ ms) ns = letters_append ms ns
+letters_append (node.Star ∷ ms) ns = letters_append ms ns
+letters_append (node.Plus ∷ ms) ns = letters_append ms ns
+letters_append (node.Opt ∷ ms) ns = letters_append ms ns
 
--- the letters of the notation are those of the signs
-pub letters_polish : (t : Tree) → letters (polish t) ≡ signs t
+-- the letters of the notation are those of the positions
+pub letters_polish : (t : Tree) → letters (polish t) ≡ positions t
 letters_polish Zero = refl
 letters_polish One = refl
 letters_polish (Letter a) = refl
-letters_polish (Or s t) = letters_append (polish s) (polish t) ∙ ap (λ w. w ++ letters (polish t)) (letters_polish s) ∙ ap (λ w. signs s ++ w) (letters_polish t)
-letters_polish (Cat s t) = letters_append (polish s) (polish t) ∙ ap (λ w. w ++ letters (polish t)) (letters_polish s) ∙ ap (λ w. signs s ++ w) (letters_polish t)
+letters_polish (Or s t) = letters_append (polish s) (polish t) ∙ ap (λ w. w ++ letters (polish t)) (letters_polish s) ∙ ap (λ w. positions s ++ w) (letters_polish t)
+letters_polish (Cat s t) = letters_append (polish s) (polish t) ∙ ap (λ w. w ++ letters (polish t)) (letters_polish s) ∙ ap (λ w. positions s ++ w) (letters_polish t)
 letters_polish (Star t) = letters_polish t
 letters_polish (Plus t) = letters_polish t
 letters_polish (Opt t) = letters_polish t
 
--- a node takes its parts' signs with it
-signs_built : (n : Node) (ts : List Tree) → arity n ≤ length ts → signs_among (built n ts) ≡ length (letters (n ∷ [])) + signs_among ts
-signs_built NoWord ts h = refl
-signs_built EmptyWord ts h = refl
-signs_built (Symbol a) ts h = refl
-signs_built Union (s ∷ (t ∷ ts)) h = omega (arith, length-append (signs s) (signs t))
-signs_built Product (s ∷ (t ∷ ts)) h = omega (arith, length-append (signs s) (signs t))
-signs_built AnyTimes (t ∷ ts) h = omega arith
-signs_built OnceOrMore (t ∷ ts) h = omega arith
-signs_built AtMostOnce (t ∷ ts) h = omega arith
-signs_built Union [] h = absurd (omega arith)
-signs_built Union (s ∷ []) h = absurd (omega arith)
-signs_built Product [] h = absurd (omega arith)
-signs_built Product (s ∷ []) h = absurd (omega arith)
-signs_built AnyTimes [] h = absurd (omega arith)
-signs_built OnceOrMore [] h = absurd (omega arith)
-signs_built AtMostOnce [] h = absurd (omega arith)
+-- a node takes its parts' positions with it
+positions_built : (n : Node) (ts : List Tree) → arity n ≤ length ts → positions_among (built n ts) ≡ length (letters (n ∷ [])) + positions_among ts
+positions_built node.Zero ts h = refl
+positions_built node.One ts h = refl
+positions_built (node.Letter a) ts h = refl
+positions_built node.Or (s ∷ (t ∷ ts)) h = omega (arith, length-append (positions s) (positions t))
+positions_built node.Cat (s ∷ (t ∷ ts)) h = omega (arith, length-append (positions s) (positions t))
+positions_built node.Star (t ∷ ts) h = omega arith
+positions_built node.Plus (t ∷ ts) h = omega arith
+positions_built node.Opt (t ∷ ts) h = omega arith
+positions_built node.Or [] h = absurd (omega arith)
+positions_built node.Or (s ∷ []) h = absurd (omega arith)
+positions_built node.Cat [] h = absurd (omega arith)
+positions_built node.Cat (s ∷ []) h = absurd (omega arith)
+positions_built node.Star [] h = absurd (omega arith)
+positions_built node.Plus [] h = absurd (omega arith)
+positions_built node.Opt [] h = absurd (omega arith)
 
--- the trees have as many signs as the nodes have letters
-pub signs_counted : (ns : List Node) → IsNotation ns → signs_among (trees ns) ≡ length (letters ns)
-signs_counted [] h = refl
-signs_counted (n ∷ ns) (h, k) =
-    let e : signs_among (trees ns) ≡ length (letters ns) = signs_counted ns k in
-    let f = signs_built n (trees ns) h in
+-- the trees have as many positions as the nodes have letters
+pub positions_counted : (ns : List Node) → IsNotation ns → positions_among (trees ns) ≡ length (letters ns)
+positions_counted [] h = refl
+positions_counted (n ∷ ns) (h, k) =
+    let e : positions_among (trees ns) ≡ length (letters ns) = positions_counted ns k in
+    let f = positions_built n (trees ns) h in
     let g : letters (n ∷ ns) ≡ letters (n ∷ []) ++ letters ns = letters_append (n ∷ []) ns in
     let i : length (letters (n ∷ ns)) ≡ length (letters (n ∷ [])) + length (letters ns) = ap length g ∙ length-append (letters (n ∷ [])) (letters ns) in
     omega arith

@@ -1,8 +1,8 @@
--- The words of an expression are the words of its signs, read letter by letter.
+-- The words of an expression are the words of its positions, read letter by letter.
 use Rattle.std.proofs.Common.{◌≡◌, ℕ, ◌+◌, ◌-◌, ◌<◌, inl, inr, List, [], ◌∷◌, ◌++◌, length, length-append, get_or, refl, ap, sym, subst, ◌∙◌, arith, map}
 use Rattle.std.proofs.lemmas.List.{map-append, get_or_append_left, get_or-append-add}
 use Rattle.expression_theory.specs.Expression.{Tree, Zero, One, Letter, Or, Cat, Star, Plus, Opt, Means, Concatenation, KleeneStar, nothing, piece}
-use Rattle.expression_theory.specs.Positions.{signs, numbered, letter_of, SignWord}
+use Rattle.expression_theory.specs.Positions.{positions, numbered, letter_of, PositionWord}
 use Rattle.expression_theory.proofs.Words.{more}
 
 -- the tree in which each letter is changed
@@ -76,7 +76,7 @@ back f (Plus t) w h =
 back f (Opt t) w (inl h) = ([], inl refl, sym h)
 back f (Opt t) w (inr h) = widen f (Means t) (Means (Opt t)) w (λ x. inr) (back f t w h)
 
--- f gives the signs from n on the letters of the list
+-- f gives the positions from n on the letters of the list
 abbrev Reads : (ℕ → ℕ) → ℕ → List ℕ → Type 0
 Reads f n xs = (i : ℕ) → i < length xs → f (n + i) ≡ get_or xs i 0
 
@@ -88,30 +88,30 @@ reads_right f n xs ys h i b =
     let e : (n + length xs) + i ≡ n + (length xs + i) = omega arith in
     ap f e ∙ h (length xs + i) (omega (arith, length-append xs ys)) ∙ get_or-append-add xs ys i 0
 
-relabel_numbered : (f : ℕ → ℕ) (n : ℕ) (t : Tree) → Reads f n (signs t) → relabel f (numbered n t) ≡ t
+relabel_numbered : (f : ℕ → ℕ) (n : ℕ) (t : Tree) → Reads f n (positions t) → relabel f (numbered n t) ≡ t
 relabel_numbered f n Zero h = refl
 relabel_numbered f n One h = refl
 relabel_numbered f n (Letter a) h = ap Letter (ap f (let e : n ≡ n + 0 = omega arith in e) ∙ h 0 (omega arith))
 relabel_numbered f n (Or s t) h =
-    let e : relabel f (numbered n s) ≡ s = relabel_numbered f n s (reads_left f n (signs s) (signs t) h) in
-    let e' : relabel f (numbered (n + length (signs s)) t) ≡ t = relabel_numbered f (n + length (signs s)) t (reads_right f n (signs s) (signs t) h) in cc
+    let e : relabel f (numbered n s) ≡ s = relabel_numbered f n s (reads_left f n (positions s) (positions t) h) in
+    let e' : relabel f (numbered (n + length (positions s)) t) ≡ t = relabel_numbered f (n + length (positions s)) t (reads_right f n (positions s) (positions t) h) in cc
 relabel_numbered f n (Cat s t) h =
-    let e : relabel f (numbered n s) ≡ s = relabel_numbered f n s (reads_left f n (signs s) (signs t) h) in
-    let e' : relabel f (numbered (n + length (signs s)) t) ≡ t = relabel_numbered f (n + length (signs s)) t (reads_right f n (signs s) (signs t) h) in cc
+    let e : relabel f (numbered n s) ≡ s = relabel_numbered f n s (reads_left f n (positions s) (positions t) h) in
+    let e' : relabel f (numbered (n + length (positions s)) t) ≡ t = relabel_numbered f (n + length (positions s)) t (reads_right f n (positions s) (positions t) h) in cc
 relabel_numbered f n (Star t) h = ap Star (relabel_numbered f n t h)
 relabel_numbered f n (Plus t) h = ap Plus (relabel_numbered f n t h)
 relabel_numbered f n (Opt t) h = ap Opt (relabel_numbered f n t h)
 
-read_letters : (t : Tree) → Reads (letter_of t) 1 (signs t)
-read_letters t i h = let e : (1 + i) - 1 ≡ i = omega arith in ap (λ k. get_or (signs t) k 0) e
+read_letters : (t : Tree) → Reads (letter_of t) 1 (positions t)
+read_letters t i h = let e : (1 + i) - 1 ≡ i = omega arith in ap (λ k. get_or (positions t) k 0) e
 
 same_tree : (t : Tree) → relabel (letter_of t) (numbered 1 t) ≡ t
 same_tree t = relabel_numbered (letter_of t) 1 t (read_letters t)
 
--- each word of the expression is read off a word of signs
-pub has_signs : (t : Tree) (w : List ℕ) → Means t w → Image (letter_of t) (SignWord t) w
-has_signs t w h = back (letter_of t) (numbered 1 t) w (subst (λ s. Means s w) (sym (same_tree t)) h)
+-- each word of the expression is read off a word of positions
+pub has_positions : (t : Tree) (w : List ℕ) → Means t w → Image (letter_of t) (PositionWord t) w
+has_positions t w h = back (letter_of t) (numbered 1 t) w (subst (λ s. Means s w) (sym (same_tree t)) h)
 
--- and each word of signs gives one
-pub from_signs : (t : Tree) (x : List ℕ) → SignWord t x → Means t (map (letter_of t) x)
-from_signs t x h = subst (λ s. Means s (map (letter_of t) x)) (same_tree t) (forth (letter_of t) (numbered 1 t) x h)
+-- and each word of positions gives one
+pub from_positions : (t : Tree) (x : List ℕ) → PositionWord t x → Means t (map (letter_of t) x)
+from_positions t x h = subst (λ s. Means s (map (letter_of t) x)) (same_tree t) (forth (letter_of t) (numbered 1 t) x h)

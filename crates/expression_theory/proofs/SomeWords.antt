@@ -3,7 +3,7 @@ use Rattle.std.proofs.Common.{◌≡◌, ◌↔◌, ◌⊎◌, inl, inr, ℕ, ze
 use Rattle.language_theory.specs.Words.{power}
 use Rattle.language_theory.specs.Examples.{IsAbStar}
 use Rattle.expression_theory.specs.Expression.{Tree, Zero, Letter, Or, Cat, Star, Plus, Means, KleeneStar, nothing, piece}
-use Rattle.expression_theory.specs.Positions.{SignWord, Follows}
+use Rattle.expression_theory.specs.Positions.{PositionWord, Follows}
 use Rattle.expression_theory.proofs.Words.{not_empty, once_or_none, from_once}
 
 -- ab is the word of the concatenation of a and b
@@ -40,7 +40,7 @@ star_cases t w = (once_or_none (Means t) w, from)
     from (inr h) = from_once (Means t) w h
 
 -- b alone is the language of a0|b
-only_b : (w : List ℕ) → SignWord (Or (Cat (Letter 0) Zero) (Letter 1)) w → w ≡ 2 ∷ []
+only_b : (w : List ℕ) → PositionWord (Or (Cat (Letter 0) Zero) (Letter 1)) w → w ≡ 2 ∷ []
 only_b w (inl (u, v, h, k, e)) = absurd k
 only_b w (inr e) = e
 
@@ -49,6 +49,6 @@ one_letter : (p q : ℕ) (u v : List ℕ) → u ++ p ∷ (q ∷ v) ≡ 2 ∷ [] 
 one_letter p q [] v e = not_empty q [] v (cc)
 one_letter p q (a ∷ u) v e = not_empty p u (q ∷ v) (cc)
 
--- no sign of a0|b follows another
-pub none_follows : (p q : ℕ) → ¬ Follows (SignWord (Or (Cat (Letter 0) Zero) (Letter 1))) p q
+-- no position of a0|b follows another
+pub none_follows : (p q : ℕ) → ¬ Follows (PositionWord (Or (Cat (Letter 0) Zero) (Letter 1))) p q
 none_follows p q (u, v, h) = one_letter p q u v (only_b (u ++ p ∷ (q ∷ v)) h)

@@ -2,7 +2,8 @@
 use Rattle.std.specs.Prelude.{true, false, [], ◌∷◌}
 use Rattle.language_theory.specs.Automaton.{Automaton}
 
--- state 0, the sign a and the sign b: a begins, b follows a, a follows b, and 0 and b are final
+-- state 0, the position of a and that of b: a begins, b follows a, a follows b, and 0 and b are
+-- final
 abbrev pub ab_star_positions : Automaton
 ab_star_positions = record {
   states = 3;

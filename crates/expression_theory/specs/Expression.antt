@@ -42,3 +42,7 @@ nodes (Cat s t) = nodes s + nodes t + 1
 nodes (Star t) = nodes t + 1
 nodes (Plus t) = nodes t + 1
 nodes (Opt t) = nodes t + 1
+
+-- the most nodes of a tree that is read from a text
+abbrev pub most_nodes : ℕ
+most_nodes = 4000

@@ -1,38 +1,26 @@
 -- The grammar of expressions, over signs.
-use Rattle.std.specs.Prelude.{ℕ, List, [], ◌∷◌, ◌++◌}
+use Rattle.std.specs.Prelude.{List, [], ◌∷◌, ◌++◌}
 use Rattle.expression_theory.specs.Expression.{Tree, Zero, One, Letter, Or, Cat, Star, Plus, Opt}
-
--- `0` (no word), `1` (the empty word) and the letters, by their numbers
-pub data Leaf : Type 0 where
-  NoWord : Leaf
-  EmptyWord : Leaf
-  Symbol : (a : ℕ) → Leaf
-
--- `*`, `+` and `?`
-pub data Quantifier : Type 0 where
-  AnyTimes : Quantifier
-  OnceOrMore : Quantifier
-  AtMostOnce : Quantifier
-
--- the signs of a text: `|` is a bar, and parentheses open and close
-pub data Sign : Type 0 where
-  Operand : (x : Leaf) → Sign
-  Bar : Sign
-  Postfix : (m : Quantifier) → Sign
-  Open : Sign
-  Close : Sign
+use Rattle.expression_theory.specs.declared.signs.Leaf.TheVariants as leaf
+use Rattle.expression_theory.specs.declared.signs.Quantifier.TheVariants as quantifier
+-- `0`, `1` and the letters; `*`, `+` and `?`; and all signs: `|` is a bar, and parentheses open and
+-- close
+pub use Rattle.expression_theory.specs.declared.signs.Leaf.{Leaf}
+pub use Rattle.expression_theory.specs.declared.signs.Quantifier.{Quantifier}
+pub use Rattle.expression_theory.specs.declared.signs.Sign.{Sign}
+pub use Rattle.expression_theory.specs.declared.signs.Sign.TheVariants.{Operand, Bar, Postfix, Open, Close}
 
 -- the tree of a leaf
 abbrev pub leaf_tree : Leaf → Tree
-leaf_tree NoWord = Zero
-leaf_tree EmptyWord = One
-leaf_tree (Symbol a) = Letter a
+leaf_tree leaf.Zero = Zero
+leaf_tree leaf.One = One
+leaf_tree (leaf.Letter a) = Letter a
 
 -- a tree with a postfix sign behind it
 abbrev pub applied : Quantifier → Tree → Tree
-applied AnyTimes t = Star t
-applied OnceOrMore t = Plus t
-applied AtMostOnce t = Opt t
+applied quantifier.Star t = Star t
+applied quantifier.Plus t = Plus t
+applied quantifier.Opt t = Opt t
 
 -- the levels of the grammar, from the tightest
 pub data Level : Type 0 where

@@ -2,41 +2,43 @@
 -- before it.
 use Rattle.std.specs.Prelude.{◌≡◌, ℕ, ◌+◌, ◌-◌, ◌<◌, Bool, true, false, cond, ◌&&◌, ◌||◌, ◌==◌, ◌⊎◌, nat_lt, nat_le, Option, Some, None, List, [], ◌∷◌, length, take, map, slice_index_or}
 use Rattle.std.specs.List.{position_or_len}
-use Rattle.expression_theory.specs.Expression.{Tree}
-use Rattle.expression_theory.specs.Grammar.{NoWord, EmptyWord, Symbol, AnyTimes, OnceOrMore, AtMostOnce, Sign, Operand, Bar, Postfix, Open, Close, Spells, Union}
-
+use Rattle.expression_theory.specs.Expression.{Tree, most_nodes}
+use Rattle.expression_theory.specs.Grammar.{Sign, Operand, Bar, Postfix, Open, Close, Spells, Union}
+use Rattle.expression_theory.specs.declared.signs.Leaf.TheVariants as leaf
+use Rattle.expression_theory.specs.declared.signs.Quantifier.TheVariants as quantifier
 -- what a byte is: a space or tab, a lower-case letter that is not of the alphabet, no sign, or a
 -- sign
-pub data Class : Type 0 where
-  Skipped : Class
-  Unknown : Class
-  Strange : Class
-  Good : (s : Sign) → Class
+pub use Rattle.expression_theory.specs.declared.signs.Class.{Class}
+pub use Rattle.expression_theory.specs.declared.signs.Class.TheVariants.{Skipped, Unknown, Strange, Good}
 
 -- the number of a letter is its place in the alphabet
 abbrev pub letter_class : List ℕ → ℕ → Class
 letter_class letters byte =
     let place = position_or_len (λ a. a == byte) letters in
-    cond (nat_lt place (length letters)) (Good (Operand (Symbol place))) Unknown
+    cond (nat_lt place (length letters)) (Good (Operand (leaf.Letter place))) Unknown
 
 -- a byte that is no lower-case letter
 abbrev pub sign_class : ℕ → Class
 sign_class byte =
     cond ((byte == 32) || (byte == 9)) Skipped  -- space and tab
-    (cond (byte == 48) (Good (Operand NoWord))  -- 0
-    (cond (byte == 49) (Good (Operand EmptyWord))  -- 1
+    (cond (byte == 48) (Good (Operand leaf.Zero))  -- 0
+    (cond (byte == 49) (Good (Operand leaf.One))  -- 1
     (cond (byte == 124) (Good Bar)  -- |
-    (cond (byte == 42) (Good (Postfix AnyTimes))  -- *
-    (cond (byte == 43) (Good (Postfix OnceOrMore))  -- +
-    (cond (byte == 63) (Good (Postfix AtMostOnce))  -- ?
+    (cond (byte == 42) (Good (Postfix quantifier.Star))  -- *
+    (cond (byte == 43) (Good (Postfix quantifier.Plus))  -- +
+    (cond (byte == 63) (Good (Postfix quantifier.Opt))  -- ?
     (cond (byte == 40) (Good Open)  -- (
     (cond (byte == 41) (Good Close)  -- )
     Strange))))))))
 
+-- a lower-case letter, as a byte
+abbrev pub is_lower_case : ℕ → Bool
+is_lower_case byte = nat_le 97 byte && nat_le byte 122
+
 -- the class of a byte under an alphabet, which is given by its letters' bytes in order
 abbrev pub class_of : List ℕ → ℕ → Class
 class_of letters byte =
-    cond (nat_le 97 byte && nat_le byte 122) (letter_class letters byte) (sign_class byte)
+    cond (is_lower_case byte) (letter_class letters byte) (sign_class byte)
 
 -- the classes of the bytes of a text
 abbrev pub classes : List ℕ → List ℕ → List Class
@@ -106,18 +108,23 @@ abbrev pub nodes_from : Bool → List Class → ℕ
 nodes_from d [] = 0
 nodes_from d (c ∷ cs) = cost d c + nodes_from (due_by d c) cs
 
--- a tree has at most 4,000 nodes
+-- the most parentheses that may be open at once
+abbrev pub most_open : ℕ
+most_open = 200
+
+-- a tree may not have too many nodes
 abbrev pub size_test : ℕ → Option FaultKind
-size_test n = cond (nat_lt 4000 n) (Some TooLarge) None
+size_test n = cond (nat_lt most_nodes n) (Some TooLarge) None
 
 -- the first test that fails at a byte, if any: whether an operand must come, the open
--- parentheses (at most 200) and the nodes are those of the bytes before it
+-- parentheses and the nodes are those of the bytes before it
 abbrev pub failing : Bool → ℕ → ℕ → Class → Option FaultKind
 failing d o n Skipped = None
 failing d o n Unknown = Some UnknownLetter
 failing d o n Strange = Some Unexpected
 failing d o n (Good (Operand t)) = size_test (n + cost d (Good (Operand t)))
-failing d o n (Good Open) = cond (nat_lt o 200) (size_test (n + cost d (Good Open))) (Some TooDeep)
+failing d o n (Good Open) =
+    cond (nat_lt o most_open) (size_test (n + cost d (Good Open))) (Some TooDeep)
 failing d o n (Good Bar) = cond d (Some Unexpected) (size_test (n + 1))
 failing d o n (Good (Postfix m)) = cond d (Some Unexpected) (size_test (n + 1))
 failing d o n (Good Close) = cond (d || (o == 0)) (Some Unexpected) (size_test n)

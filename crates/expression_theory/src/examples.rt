@@ -1,11 +1,12 @@
 //! Worked examples over the letters a = 0 and b = 1, in the alphabet that is written `ab`.
 
-ghost use Rattle.std.specs.Prelude.{◌≡◌, ◌↔◌, ◌⊎◌, ℕ, true, List, [], ◌∷◌, codes, replicate};
+ghost use Rattle.std.specs.Prelude.{◌≡◌, ◌↔◌, ◌⊎◌, ◌+◌, ℕ, true, Some, List, [], ◌∷◌, codes, replicate};
 ghost use Rattle.language_theory.specs.Examples.{IsAbStar};
-ghost use Rattle.expression_theory.specs.Expression.{Tree, Zero, One, Letter, Or, Cat, Star, Plus, Opt, Means, nodes};
-ghost use Rattle.expression_theory.specs.Positions.{SignWord, Begins, Follows, Ends, numbered, IsPositions};
-ghost use Rattle.expression_theory.specs.FirstLast.{firsts, lasts, follows};
-ghost use Rattle.expression_theory.specs.Scan.{classes, nodes_from, Unexpected, UnknownLetter, TooDeep, TooLarge, IsAccepted, IsFault, SpellsTree};
+ghost use Rattle.expression_theory.specs.Expression.{Tree, Zero, One, Letter, Or, Cat, Star, Plus, Opt, Means, nodes, most_nodes};
+ghost use Rattle.expression_theory.specs.Positions.{PositionWord, Begins, Follows, Ends, numbered, IsPositions};
+ghost use Rattle.expression_theory.specs.FirstLast.{has_empty, firsts, lasts};
+ghost use Rattle.expression_theory.specs.Frames.{tree_read};
+ghost use Rattle.expression_theory.specs.Scan.{classes, signs_in, nodes_from, most_open, Unexpected, UnknownLetter, TooDeep, TooLarge, IsAccepted, IsFault, SpellsTree};
 ghost use Rattle.expression_theory.specs.Examples.{ab_star_positions};
 
 /// The text `(ab)*` spells the star of a concatenation, and is accepted.
@@ -31,6 +32,8 @@ pub fn postfix_signs_bind_tightest()
     ensures tab { SpellsTree (classes (codes "ab") (codes "a\tb")) (Cat (Letter 0) (Letter 1)) }
     ensures products { SpellsTree (classes (codes "ab") (codes "abb"))
         (Cat (Cat (Letter 0) (Letter 1)) (Letter 1)) }
+    ensures read { tree_read (signs_in (classes (codes "ab") (codes "abb")))
+        ≡ Some (Cat (Cat (Letter 0) (Letter 1)) (Letter 1)) }
     ensures unions { SpellsTree (classes (codes "ab") (codes "a|b|a"))
         (Or (Or (Letter 0) (Letter 1)) (Letter 0)) }
     ensures postfixes { SpellsTree (classes (codes "ab") (codes "a+?")) (Opt (Plus (Letter 0))) }
@@ -55,13 +58,15 @@ pub fn texts_have_their_first_fault()
 
 /// 200 open parentheses and 4,000 nodes are allowed, and one more is not.
 pub fn limits_are_exact()
-    ensures depth { IsFault (classes (codes "ab") (replicate 201 40)) TooDeep 200 }
-    ensures size { IsFault (classes (codes "ab") (97 ∷ replicate 4000 42)) TooLarge 4000 }
+    ensures depth { IsFault (classes (codes "ab") (replicate (most_open + 1) 40)) TooDeep most_open }
+    ensures size { IsFault (classes (codes "ab") (97 ∷ replicate most_nodes 42)) TooLarge
+        most_nodes }
 {}
 
 /// The words of (ab)*, a+, a? and 0.
 pub fn words_of_expressions()
     ensures empty { Means (Star (Cat (Letter 0) (Letter 1))) [] }
+    ensures computed { has_empty (Star (Cat (Letter 0) (Letter 1))) ≡ true }
     ensures twice { Means (Star (Cat (Letter 0) (Letter 1))) (0 ∷ 1 ∷ 0 ∷ 1 ∷ []) }
     ensures half { ¬ Means (Star (Cat (Letter 0) (Letter 1))) (0 ∷ []) }
     ensures once { Means (Plus (Letter 0)) (0 ∷ []) }
@@ -92,17 +97,17 @@ pub fn ab_star_has_three_positions()
     ensures { IsPositions (Star (Cat (Letter 0) (Letter 1))) 2 ab_star_positions }
 {}
 
-/// In `a0|b` the sign a begins no word, follows no sign, is followed by none, and ends no word.
-/// The sign b begins a word and ends one.
-pub fn a_dead_sign_has_no_step()
+/// In `a0|b` the position of a begins no word, follows no position, is followed by none, and ends no
+/// word. The position of b begins a word and ends one.
+pub fn a_dead_position_has_no_step()
     ensures text { SpellsTree (classes (codes "ab") (codes "a0|b"))
         (Or (Cat (Letter 0) Zero) (Letter 1)) }
-    ensures begins { ¬ Begins (SignWord (Or (Cat (Letter 0) Zero) (Letter 1))) 1 }
-    ensures follows { (p : ℕ) → ¬ Follows (SignWord (Or (Cat (Letter 0) Zero) (Letter 1))) p 1 }
-    ensures followed { (q : ℕ) → ¬ Follows (SignWord (Or (Cat (Letter 0) Zero) (Letter 1))) 1 q }
-    ensures ends { ¬ Ends (SignWord (Or (Cat (Letter 0) Zero) (Letter 1))) 1 }
-    ensures live_begins { Begins (SignWord (Or (Cat (Letter 0) Zero) (Letter 1))) 2 }
-    ensures live_ends { Ends (SignWord (Or (Cat (Letter 0) Zero) (Letter 1))) 2 }
+    ensures begins { ¬ Begins (PositionWord (Or (Cat (Letter 0) Zero) (Letter 1))) 1 }
+    ensures follows { (p : ℕ) → ¬ Follows (PositionWord (Or (Cat (Letter 0) Zero) (Letter 1))) p 1 }
+    ensures followed { (q : ℕ) → ¬ Follows (PositionWord (Or (Cat (Letter 0) Zero) (Letter 1))) 1 q }
+    ensures ends { ¬ Ends (PositionWord (Or (Cat (Letter 0) Zero) (Letter 1))) 1 }
+    ensures live_begins { Begins (PositionWord (Or (Cat (Letter 0) Zero) (Letter 1))) 2 }
+    ensures live_ends { Ends (PositionWord (Or (Cat (Letter 0) Zero) (Letter 1))) 2 }
     ensures firsts { firsts (numbered 1 (Or (Cat (Letter 0) Zero) (Letter 1))) ≡ 2 ∷ [] }
     ensures lasts { lasts (numbered 1 (Or (Cat (Letter 0) Zero) (Letter 1))) ≡ 2 ∷ [] }
 {}

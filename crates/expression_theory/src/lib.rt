@@ -2,6 +2,8 @@
 #![tactic(auto)]
 
 pub mod examples;
+mod notation;
+mod signs;
 
 ghost use Rattle.std.specs.Prelude.{◌≡◌, ◌↔◌, ◌⊎◌, ℕ, true, IsTrue, Some, List, [], ◌∷◌};
 ghost use Rattle.language_theory.specs.Automaton.{Automaton, Accepts};
@@ -12,6 +14,9 @@ ghost use Rattle.expression_theory.specs.Grammar.{Sign, Spells, Union};
 ghost use Rattle.expression_theory.specs.Frames.{tree_read};
 ghost use Rattle.expression_theory.specs.Scan.{Class, FaultKind, TooDeep, TooLarge, nodes_from, IsAccepted, IsFault, SpellsTree};
 ghost use Rattle.expression_theory.specs.Polish.{polish, trees};
+
+pub use notation::Node;
+pub use signs::{Class, Leaf, Quantifier, Sign};
 
 /// A position automaton accepts exactly the words of its expression (Glushkov).
 pub fn positions_accept_the_language()

@@ -1,11 +1,11 @@
 -- What is known between two bytes of a text, and at its end.
 use Rattle.std.proofs.Common.{◌≡◌, ℕ, ◌+◌, ◌<◌, ◌≤◌, true, false, Some, None, List, [], ◌∷◌, ◌++◌, length, take, get_or, map, reverse, refl, ap, sym, subst, ◌∙◌, arith}
 use Rattle.std.proofs.lemmas.List.{take_more, take_all}
-use Rattle.expression_theory.specs.Expression.{Tree, nodes}
+use Rattle.expression_theory.specs.Expression.{Tree, nodes, most_nodes}
 use Rattle.expression_theory.specs.Positions.{IsWithin}
 use Rattle.expression_theory.specs.Grammar.{Spells, Union}
 use Rattle.expression_theory.specs.Frames as frames
-use Rattle.expression_theory.specs.Scan.{Class, Strange, classes, signs_in, depth_by, cost, nodes_from, IsAccepted, SpellsTree}
+use Rattle.expression_theory.specs.Scan.{classes, signs_in, depth_by, cost, nodes_from, IsAccepted, SpellsTree}
 use Rattle.expression_theory.proofs.Counting.{IsScanned, scanned_more, scanned_all}
 use Rattle.expression_theory.proofs.Reading.{run_more}
 use Rattle.expression_theory.proofs.Sound.{read_spells}
@@ -17,6 +17,8 @@ use Rattle.regex_reader.specs.declared.frames.Frame.{Frame}
 use Rattle.regex_reader.specs.declared.reader.Reader.{Reader}
 use Rattle.regex_reader.specs.Expressions.{tree_of, tree_in}
 use Rattle.regex_reader.specs.Readers.{is_due, frame_of, frames_of, HasRead, IsReader}
+use Rattle.expression_theory.specs.declared.signs.Class.{Class}
+use Rattle.expression_theory.specs.declared.signs.Class.TheVariants.{Strange}
 
 -- what is known of a reader after i bytes
 pub record IsBetween (cs : List Class) (i : ℕ) (r : Reader) : Type 0 where
@@ -48,7 +50,7 @@ pub record IsDone (cs : List Class) (t : Tree) : Type 0 where
   pub accepted : IsAccepted cs
   pub spells : SpellsTree cs t
   pub signs : Spells Union (signs_in cs) t
-  pub small : nodes t ≤ 4000
+  pub small : nodes t ≤ most_nodes
 
 -- what is known at the end
 pub between_done : (cs : List Class) (i : ℕ) (r : Reader) (piece : Expr) (t : Tree) → IsBetween cs i r → i ≡ length cs → length r.waiting.items ≡ 0 → r.piece ≡ Some piece →
@@ -69,7 +71,7 @@ between_done cs i r piece t h e f g k =
     let signs : Spells Union (signs_in cs) t = read_spells (signs_in cs) t tree in
     let count : nodes_from true cs ≡ nodes t = nodes_counted cs t signs in
     let seen : r.nodes ≡ nodes_from true cs = scanned.nodes ∙ ap (nodes_from true) all in
-    let small : r.nodes ≤ 4000 = scanned.small in
+    let small : r.nodes ≤ most_nodes = scanned.small in
     record { accepted = accepted; spells = read_tree cs t accepted tree; signs = signs; small = omega arith }
 
 -- the tree of an accepted text has a position automaton

@@ -8,29 +8,28 @@ use Rattle.std.proofs.lemmas.Bool.Decides.{Decides-eqb, Decides-and, Decides-or,
 use Rattle.language_theory.specs.Automaton.{Automaton, is_final, is_step, has_step}
 use Rattle.syn_words.specs.Nfa.{bare, with_initial}
 use Rattle.expression_theory.specs.Expression.{Tree, Means}
-use Rattle.expression_theory.specs.Positions.{signs, numbered, SignWord, Begins, Follows, Ends, letter_of, StepsTo, IsFinalPosition, IsPositions}
+use Rattle.expression_theory.specs.Positions.{positions, numbered, PositionWord, Begins, Follows, Ends, letter_of, StepsTo, IsFinalPosition, IsPositions}
 use Rattle.expression_theory.specs.FirstLast.{has, has_empty, firsts, lasts, follows}
 use Rattle.expression_theory.proofs.Exchange.{between}
-use Rattle.expression_theory.proofs.Relabel.{Image, has_signs, from_signs}
+use Rattle.expression_theory.proofs.Relabel.{Image, has_positions, from_positions}
 use Rattle.expression_theory.proofs.FirstLast.{has_empty_decides, firsts_decide, lasts_decide, follows_decide}
 use Rattle.expression_theory.proofs.Acceptance.{steps_below}
-use Rattle.regex_reader.specs.declared.parts.Part.{Part}
 use Rattle.regex_reader.specs.Marks.{Table, is_marked, IsAdded}
-use Rattle.regex_reader.specs.Parts.{IsPart, IsFollowing}
+use Rattle.regex_reader.specs.Parts.{IsPart, IsFollowing, Summary}
 use Rattle.regex_reader.specs.Growth.{HasFinals, HasGrown, IsTableStep, IsBuilt}
 use Rattle.regex_reader.proofs.Tables.{or_nothing}
 
--- the table has the steps of the automaton, 0 being the state before all signs
+-- the table has the steps of the automaton, 0 being the state before all positions
 abbrev pub Steps : Tree → ℕ → ℕ → Bool
 Steps t p q = follows (numbered 1 t) p q || ((0 == p) && has (firsts (numbered 1 t)) q)
 
-no_zero : (t : Tree) (u v : List ℕ) → SignWord t (u ++ 0 ∷ v) → ⊥
+no_zero : (t : Tree) (u v : List ℕ) → PositionWord t (u ++ 0 ∷ v) → ⊥
 no_zero t u v h = let b : 1 ≤ 0 = (between 1 t 0 u v h).0 in omega arith
 
 decides_by : {P Q : Type 0} (b : Bool) → Decides b P → (P → Q) → (Q → P) → Decides b Q
 decides_by b d to from = (λ e. to (d.0 e), λ q. d.1 (from q))
 
-steps_decide : (t : Tree) (p q : ℕ) → Decides (Steps t p q) (Follows (SignWord t) p q ⊎ ((0 ≡ p) × Begins (SignWord t) q))
+steps_decide : (t : Tree) (p q : ℕ) → Decides (Steps t p q) (Follows (PositionWord t) p q ⊎ ((0 ≡ p) × Begins (PositionWord t) q))
 steps_decide t p q =
     Decides-or (follows (numbered 1 t) p q) ((0 == p) && has (firsts (numbered 1 t)) q) (follows_decide (numbered 1 t) p q)
     (Decides-and (0 == p) (has (firsts (numbered 1 t)) q) (Decides-eqb 0 p) (firsts_decide (numbered 1 t) q))
@@ -39,15 +38,15 @@ steps_decide t p q =
 pub step_decides : (t : Tree) (p q : ℕ) → Decides (Steps t p q) (StepsTo t p q)
 step_decides t zero q = decides_by (Steps t 0 q) (steps_decide t 0 q) to from
   where
-    to : Follows (SignWord t) 0 q ⊎ ((zero ≡ zero) × Begins (SignWord t) q) → Begins (SignWord t) q
+    to : Follows (PositionWord t) 0 q ⊎ ((zero ≡ zero) × Begins (PositionWord t) q) → Begins (PositionWord t) q
     to (inl (u, v, h)) = absurd (no_zero t u (q ∷ v) h)
     to (inr (e, h)) = h
 
-    from : Begins (SignWord t) q → Follows (SignWord t) 0 q ⊎ ((zero ≡ zero) × Begins (SignWord t) q)
+    from : Begins (PositionWord t) q → Follows (PositionWord t) 0 q ⊎ ((zero ≡ zero) × Begins (PositionWord t) q)
     from h = inr (refl, h)
 step_decides t (suc p) q = decides_by (Steps t (suc p) q) (steps_decide t (suc p) q) to inl
   where
-    to : Follows (SignWord t) (suc p) q ⊎ ((0 ≡ suc p) × Begins (SignWord t) q) → Follows (SignWord t) (suc p) q
+    to : Follows (PositionWord t) (suc p) q ⊎ ((0 ≡ suc p) × Begins (PositionWord t) q) → Follows (PositionWord t) (suc p) q
     to (inl h) = h
     to (inr (e, h)) = absurd (let f : 0 ≡ suc p = e in omega arith)
 
@@ -55,14 +54,14 @@ step_decides t (suc p) q = decides_by (Steps t (suc p) q) (steps_decide t (suc p
 abbrev pub Finals : Tree → ℕ → Bool
 Finals t p = (has_empty (numbered 1 t) && (0 == p)) || has (lasts (numbered 1 t)) p
 
-empty_sign_word : (t : Tree) → Means t [] → SignWord t []
-empty_sign_word t h = by (has_signs t [] h)
+empty_position_word : (t : Tree) → Means t [] → PositionWord t []
+empty_position_word t h = by (has_positions t [] h)
   where
-    by : Image (letter_of t) (SignWord t) [] → SignWord t []
+    by : Image (letter_of t) (PositionWord t) [] → PositionWord t []
     by ([], s, e) = s
     by (a ∷ x, s, e) = absurd (let f : letter_of t a ∷ map (letter_of t) x ≡ [] = e in cc)
 
-ends_decide : (t : Tree) (p : ℕ) → Decides (Finals t p) ((SignWord t [] × (0 ≡ p)) ⊎ Ends (SignWord t) p)
+ends_decide : (t : Tree) (p : ℕ) → Decides (Finals t p) ((PositionWord t [] × (0 ≡ p)) ⊎ Ends (PositionWord t) p)
 ends_decide t p =
     Decides-or (has_empty (numbered 1 t) && (0 == p)) (has (lasts (numbered 1 t)) p)
     (Decides-and (has_empty (numbered 1 t)) (0 == p) (has_empty_decides (numbered 1 t)) (Decides-eqb 0 p)) (lasts_decide (numbered 1 t) p)
@@ -71,33 +70,33 @@ ends_decide t p =
 pub final_decides : (t : Tree) (p : ℕ) → Decides (Finals t p) (IsFinalPosition t p)
 final_decides t zero = decides_by (Finals t 0) (ends_decide t 0) to from
   where
-    to : (SignWord t [] × (zero ≡ zero)) ⊎ Ends (SignWord t) 0 → Means t []
-    to (inl (h, e)) = from_signs t [] h
+    to : (PositionWord t [] × (zero ≡ zero)) ⊎ Ends (PositionWord t) 0 → Means t []
+    to (inl (h, e)) = from_positions t [] h
     to (inr (u, h)) = absurd (no_zero t u [] h)
 
-    from : Means t [] → (SignWord t [] × (zero ≡ zero)) ⊎ Ends (SignWord t) 0
-    from h = inl (empty_sign_word t h, refl)
+    from : Means t [] → (PositionWord t [] × (zero ≡ zero)) ⊎ Ends (PositionWord t) 0
+    from h = inl (empty_position_word t h, refl)
 final_decides t (suc p) = decides_by (Finals t (suc p)) (ends_decide t (suc p)) to inr
   where
-    to : (SignWord t [] × (0 ≡ suc p)) ⊎ Ends (SignWord t) (suc p) → Ends (SignWord t) (suc p)
+    to : (PositionWord t [] × (0 ≡ suc p)) ⊎ Ends (PositionWord t) (suc p) → Ends (PositionWord t) (suc p)
     to (inl (h, e)) = absurd (let f : 0 ≡ suc p = e in omega arith)
     to (inr h) = h
 
-pub steps_from_below : (t : Tree) (p q : ℕ) → StepsTo t p q → p < length (signs t) + 1
+pub steps_from_below : (t : Tree) (p q : ℕ) → StepsTo t p q → p < length (positions t) + 1
 steps_from_below t zero q h = omega arith
-steps_from_below t (suc p) q (u, v, h) = let b : suc p < 1 + length (signs t) = (between 1 t (suc p) u (q ∷ v) h).1 in omega arith
+steps_from_below t (suc p) q (u, v, h) = let b : suc p < 1 + length (positions t) = (between 1 t (suc p) u (q ∷ v) h).1 in omega arith
 
-steps_to_sign : (t : Tree) (p q : ℕ) → StepsTo t p q → 1 ≤ q
-steps_to_sign t zero q (w, h) = (between 1 t q [] w h).0
-steps_to_sign t (suc p) q (u, v, h) = (between 1 t q (u ++ suc p ∷ []) v (subst (SignWord t) (sym (append_assoc u (suc p ∷ []) (q ∷ v))) h)).0
+steps_to_position : (t : Tree) (p q : ℕ) → StepsTo t p q → 1 ≤ q
+steps_to_position t zero q (w, h) = (between 1 t q [] w h).0
+steps_to_position t (suc p) q (u, v, h) = (between 1 t q (u ++ suc p ∷ []) v (subst (PositionWord t) (sym (append_assoc u (suc p ∷ []) (q ∷ v))) h)).0
 
 -- the table of what follows, with the row of what begins
 pub record HasSteps (t : Tree) (m : Table) : Type 0 where
-  pub width : m.width ≡ length (signs t) + 1
+  pub width : m.width ≡ length (positions t) + 1
   pub each : (p q : ℕ) → p < m.width → q < m.width → is_marked m p q ≡ Steps t p q
 
 -- with the row of what begins, the table has all steps
-pub with_begin : (t : Tree) (m m' : Table) (xs : List ℕ) → m.width ≡ length (signs t) + 1 → IsFollowing 1 (t ∷ []) m → xs ≡ firsts (numbered 1 t) →
+pub with_begin : (t : Tree) (m m' : Table) (xs : List ℕ) → m.width ≡ length (positions t) + 1 → IsFollowing 1 (t ∷ []) m → xs ≡ firsts (numbered 1 t) →
     IsAdded m m' (λ i j. (0 == i) && has xs j) → HasSteps t m'
 with_begin t m m' xs w f e add = record {
   width = add.width ∙ w;
@@ -108,7 +107,7 @@ with_begin t m m' xs w f e add = record {
 }
 
 -- what is built is the position automaton
-pub built_positions : (t : Tree) (k : ℕ) (r : Part) (m : Table) (xs : List ℕ) (a : Automaton) → IsPart 1 t r → HasSteps t m → xs ≡ signs t → IsBuilt r.has_empty r.last.items m xs k a → IsPositions t k a
+pub built_positions : (t : Tree) (k : ℕ) (r : Summary) (m : Table) (xs : List ℕ) (a : Automaton) → IsPart 1 t r → HasSteps t m → xs ≡ positions t → IsBuilt r.has_empty r.last m xs k a → IsPositions t k a
 built_positions t k r m xs a part table e built = record {
   states = built.states ∙ ap (λ l. length l + 1) e;
   letters = built.letters;
@@ -118,7 +117,7 @@ built_positions t k r m xs a part table e built = record {
 }
   where
     finals : (p : ℕ) → is_final a p ≡ Finals t p
-    finals p = built.finals p ∙ ap (λ b. (b && (0 == p)) || has r.last.items p) part.empty ∙ ap (λ l. (has_empty (numbered 1 t) && (0 == p)) || has l p) part.last
+    finals p = built.finals p ∙ ap (λ b. (b && (0 == p)) || has r.last p) part.empty ∙ ap (λ l. (has_empty (numbered 1 t) && (0 == p)) || has l p) part.last
 
     to : (p x q : ℕ) → IsTrue (has_step a p x q) → StepsTo t p q × (letter_of t q ≡ x)
     to p x q h = by ((built.steps p x q).0 h)
@@ -126,16 +125,16 @@ built_positions t k r m xs a part table e built = record {
         by : IsTableStep m xs (length xs + 1) p x q → StepsTo t p q × (letter_of t q ≡ x)
         by (b, c, d, l, f) =
             let w = table.width in
-            let n : length xs ≡ length (signs t) = ap length e in
+            let n : length xs ≡ length (positions t) = ap length e in
             ((step_decides t p q).0 (sym (table.each p q (omega arith) (omega arith)) ∙ f), sym (l ∙ ap (λ l. get_or l (q - 1) 0) e))
 
     from : (p x q : ℕ) → StepsTo t p q × (letter_of t q ≡ x) → IsTrue (has_step a p x q)
     from p x q (s, l) =
         let w = table.width in
-        let n : length xs ≡ length (signs t) = ap length e in
+        let n : length xs ≡ length (positions t) = ap length e in
         let b = steps_from_below t p q s in
         let c = steps_below t p q s in
-        let d = steps_to_sign t p q s in
+        let d = steps_to_position t p q s in
         let marked : is_marked m p q ≡ true = table.each p q (omega arith) (omega arith) ∙ (step_decides t p q).1 s in
         (built.steps p x q).1 (omega arith, d, omega arith, sym (ap (λ l. get_or l (q - 1) 0) e ∙ l), marked)
 

@@ -1,5 +1,5 @@
 -- Each expression has a position automaton.
-use Rattle.std.proofs.Common.{◌≡◌, ℕ, zero, suc, ◌+◌, ◌<◌, ◌≤◌, Bool, true, false, cond, IsTrue, ◌&&◌, ◌||◌, ◌==◌, ◌⊎◌, inl, inr, List, [], ◌∷◌, ◌++◌, length, get_or, replicate, refl, ap, sym, subst, ◌∙◌, arith}
+use Rattle.std.proofs.Common.{◌≡◌, ℕ, zero, suc, ◌+◌, ◌<◌, ◌≤◌, Bool, true, false, cond, ◌&&◌, ◌||◌, ◌==◌, ◌⊎◌, inl, inr, List, [], ◌∷◌, ◌++◌, length, get_or, refl, ap, sym, subst, ◌∙◌, arith}
 use Rattle.std.specs.List.{list_any}
 use Rattle.std.proofs.lemmas.List.{get_or_past}
 use Rattle.std.proofs.lemmas.List.Folds.{list_any-append}
@@ -7,7 +7,7 @@ use Rattle.std.proofs.lemmas.Bool.{cases_lt, or_cases, or_left, or_right, and_pa
 use Rattle.std.proofs.lemmas.Bool.Decides.{Decides-eqb}
 use Rattle.language_theory.specs.Automaton.{Automaton, is_step}
 use Rattle.expression_theory.specs.Expression.{Tree}
-use Rattle.expression_theory.specs.Positions.{signs, letter_of, StepsTo, IsFinalPosition, IsPositions}
+use Rattle.expression_theory.specs.Positions.{positions, letter_of, IsFinalPosition, IsPositions}
 use Rattle.expression_theory.proofs.Exchange.{between}
 use Rattle.expression_theory.proofs.Acceptance.{steps_below}
 use Rattle.regex_reader.proofs.Built.{Steps, Finals, step_decides, final_decides, steps_from_below}
@@ -28,7 +28,7 @@ mark_at f i (suc n) (suc p) h =
     let same : i + 1 + p ≡ i + suc p = omega arith in mark_at f (i + 1) n p (omega arith)
     ∙ ap f same
 
--- the steps from p to the signs below n
+-- the steps from p to the positions below n
 abbrev row : Tree → ℕ → ℕ → List (ℕ × ℕ × ℕ)
 row t p zero = []
 row t p (suc q) = cond (Steps t p q) ((p, letter_of t q, q) ∷ row t p q) (row t p q)
@@ -137,19 +137,19 @@ in_rows t n (suc p) x y h k e =
         (subst (λ (r : ℕ). list_any (is_step x (letter_of t y) y) (row t r n) ≡ true) same
         (in_row t x n y k e))
 
-final_below : (t : Tree) (p : ℕ) → IsFinalPosition t p → p < length (signs t) + 1
+final_below : (t : Tree) (p : ℕ) → IsFinalPosition t p → p < length (positions t) + 1
 final_below t zero h = omega arith
 final_below t (suc p) (u, h) =
-    let b : suc p < 1 + length (signs t) = (between 1 t (suc p) u [] h).1 in omega arith
+    let b : suc p < 1 + length (positions t) = (between 1 t (suc p) u [] h).1 in omega arith
 
 -- the position automaton over k letters
 abbrev position_automaton : ℕ → Tree → Automaton
 position_automaton k t = record {
-  states = length (signs t) + 1;
+  states = length (positions t) + 1;
   letters = k;
-  initial = marks_from (λ p. 0 == p) 0 (length (signs t) + 1);
-  finals = marks_from (Finals t) 0 (length (signs t) + 1);
-  steps = rows t (length (signs t) + 1) (length (signs t) + 1);
+  initial = marks_from (λ p. 0 == p) 0 (length (positions t) + 1);
+  finals = marks_from (Finals t) 0 (length (positions t) + 1);
+  steps = rows t (length (positions t) + 1) (length (positions t) + 1);
 }
 
 -- a row of marks tells where a fact holds that holds of no number behind its end
@@ -175,21 +175,21 @@ some_positions k t = (
     states = refl;
     letters = refl;
     initial =
-        λ p. row_tells (λ q. 0 == q) (length (signs t) + 1) p (λ q. q ≡ 0)
+        λ p. row_tells (λ q. 0 == q) (length (positions t) + 1) p (λ q. q ≡ 0)
         (λ q. (λ e. sym ((Decides-eqb 0 q).0 e), λ e. (Decides-eqb 0 q).1 (sym e)))
         (λ q e. omega arith);
     final =
-        λ p. row_tells (Finals t) (length (signs t) + 1) p (IsFinalPosition t) (final_decides t)
+        λ p. row_tells (Finals t) (length (positions t) + 1) p (IsFinalPosition t) (final_decides t)
         (final_below t);
     step = λ p a q. (
       λ h. let (e, l) =
-          rows_step t (length (signs t) + 1) (length (signs t) + 1) p a q h in
+          rows_step t (length (positions t) + 1) (length (positions t) + 1) p a q h in
           ((step_decides t p q).0 e, l),
       λ (s, l).
-          let below : q < 1 + length (signs t) = steps_below t p q s in
+          let below : q < 1 + length (positions t) = steps_below t p q s in
           subst (λ (b : ℕ). list_any (is_step p b q)
-          (rows t (length (signs t) + 1) (length (signs t) + 1)) ≡ true) l
-          (in_rows t (length (signs t) + 1) (length (signs t) + 1) p q (steps_from_below t p q s)
+          (rows t (length (positions t) + 1) (length (positions t) + 1)) ≡ true) l
+          (in_rows t (length (positions t) + 1) (length (positions t) + 1) p q (steps_from_below t p q s)
           (omega arith) ((step_decides t p q).1 s)),
     );
   },

@@ -1,10 +1,11 @@
 -- A relation of numbers below a width, as a square table.
 use Rattle.std.specs.Prelude.{◌≡◌, ℕ, ◌+◌, ◌*◌, ◌<◌, ◌≤◌, Bool, false, ◌||◌, List, slice_index_or}
+use Rattle.expression_theory.specs.Expression.{most_nodes}
 
--- the greatest width of a table: an expression has at most 4,000 letters, and before them there is
--- the start
+-- the greatest width of a table: an expression has no more letters than nodes, and before them
+-- there is the start
 abbrev pub widest : ℕ
-widest = 4001
+widest = most_nodes + 1
 
 -- a row for each number below the width, one behind the other
 pub record Table : Type 0 where

@@ -8,6 +8,8 @@ use Rattle.regex_reader.specs.declared.fault.ExprFault.{ExprFault}
 use Rattle.regex_reader.specs.declared.fault.ExprFault.TheVariants as fault
 use Rattle.regex_reader.specs.declared.frames.Frame.{Frame}
 use Rattle.regex_reader.specs.declared.reader.Reader.{Reader}
+use Rattle.expression_theory.specs.Expression.{most_nodes}
+use Rattle.expression_theory.specs.declared.signs.Class.{Class}
 
 -- an operand must come where there is no last piece
 abbrev pub is_due : Option Expr → Bool
@@ -32,11 +34,11 @@ IsFaultAt failing at (fault.TooLarge place) = (failing ≡ Some scan.TooLarge) �
 IsFaultAt failing at fault.Memory = Unit {0}
 
 -- the first test that fails at a byte of this class
-abbrev pub failing_here : Reader → scan.Class → Option scan.FaultKind
+abbrev pub failing_here : Reader → Class → Option scan.FaultKind
 failing_here r c = scan.failing (is_due r.piece) (length r.waiting.items) r.nodes c
 
 -- no test fails at a byte of this class, which leads from the one reader to the other
-pub record HasRead (r : Reader) (c : scan.Class) (next : Reader) : Type 0 where
+pub record HasRead (r : Reader) (c : Class) (next : Reader) : Type 0 where
   pub clear : failing_here r c ≡ None
   pub due : is_due next.piece ≡ scan.due_by (is_due r.piece) c
   pub depth : length next.waiting.items ≡ scan.depth_by (length r.waiting.items) c
@@ -45,11 +47,11 @@ pub record HasRead (r : Reader) (c : scan.Class) (next : Reader) : Type 0 where
 
 -- what is known between two bytes
 pub record IsReader (r : Reader) : Type 0 where
-  pub depth : length r.waiting.items ≤ 200
-  pub nodes : r.nodes ≤ 4000
+  pub depth : length r.waiting.items ≤ scan.most_open
+  pub nodes : r.nodes ≤ most_nodes
 
 -- the fault of a text: that of its first failing test
-abbrev pub IsFirstFault : List scan.Class → ExprFault → Type 0
+abbrev pub IsFirstFault : List Class → ExprFault → Type 0
 IsFirstFault cs (fault.Unexpected at) = scan.IsFault cs scan.Unexpected at
 IsFirstFault cs (fault.UnknownLetter at) = scan.IsFault cs scan.UnknownLetter at
 IsFirstFault cs (fault.TooDeep at) = scan.IsFault cs scan.TooDeep at

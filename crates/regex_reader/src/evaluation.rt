@@ -1,14 +1,13 @@
 //! What begins, ends and follows in an expression, from its nodes in Polish notation.
-ghost use Rattle.std.specs.Prelude.{◌≡◌, ℕ, false, if◌then◌else◌, ◌+◌, ◌≤◌, ◌<◌, ◌∷◌, [], ◌^◌, length, reverse, map, IfOk, OnOk};
+ghost use Rattle.std.specs.Prelude.{◌≡◌, ℕ, false, if◌then◌else◌, ◌+◌, ◌≤◌, ◌<◌, ◌∷◌, [], ◌^◌, length, reverse, IfOk, OnOk};
 ghost use Rattle.expression_theory.specs.Polish as notation;
-ghost use Rattle.regex_reader.specs.Notations.{node_of};
 ghost use Rattle.regex_reader.specs.Parts.{IsPart, IsFollowing, IsEvaluated, CanRead, CanCombine, HasCombined, CanJoin, HasJoined, CanRepeat, HasRepeated};
 ghost use Rattle.expression_theory.specs.Expression.{Tree, Opt};
 ghost use Rattle.regex_reader.specs.Marks.{widest, Table, is_marked};
 
 use crate::marks::Marks;
-use crate::parts::{Part, bare, behind, either, have_words, one_sign};
-use crate::polish::Node;
+use crate::parts::{Part, behind, either, have_words};
+use expression_theory::Node;
 use std::alloc::Global;
 use syn_words::Memory;
 
@@ -34,29 +33,29 @@ fn take_two(parts: &mut Vec<Part>) -> (Part, Part)
 fn read_bare(parts: &mut Vec<Part>, has_empty: bool) -> Result<(), Memory>
     ensures { OnOk result ((n : ℕ) (table : Table)
         → HasCombined
-        (if has_empty then notation.EmptyWord else notation.NoWord) n parts.old.items table n parts.new.items table) }
+        (if has_empty then Node.One else Node.Zero) n parts.old.items table n parts.new.items table) }
 {
-    let part = bare(*parts.allocator(), has_empty, 0);
+    let part = Part::bare(*parts.allocator(), has_empty, 0);
     parts.push(part)?;
     Ok(())
 }
 
-/// Reads a sign whose number is given.
-fn read_sign(parts: &mut Vec<Part>, sign: u32) -> Result<(), Memory>
+/// Reads a position whose number is given.
+fn read_position(parts: &mut Vec<Part>, position: u32) -> Result<(), Memory>
     ensures { OnOk result ((a : ℕ) (table : Table)
-        → HasCombined (notation.Symbol a)
-        (sign + 1) parts.old.items table sign parts.new.items table) }
+        → HasCombined (Node.Letter a)
+        (position + 1) parts.old.items table position parts.new.items table) }
 {
-    let part = one_sign(*parts.allocator(), sign)?;
+    let part = Part::one_position(*parts.allocator(), position)?;
     parts.push(part)?;
     Ok(())
 }
 
 /// Reads a union.
-fn read_or(parts: &mut Vec<Part>, marks: &Marks, sign: u32) -> Result<(), Memory>
-    requires { CanCombine 2 sign parts.old.items marks.now }
+fn read_or(parts: &mut Vec<Part>, marks: &Marks, position: u32) -> Result<(), Memory>
+    requires { CanCombine 2 position parts.old.items marks.now }
     ensures { OnOk result
-        (HasCombined notation.Union sign parts.old.items marks.now sign parts.new.items marks.now) }
+        (HasCombined Node.Or position parts.old.items marks.now position parts.new.items marks.now) }
 {
     let (left, right) = take_two(parts);
     let part = either(left, right)?;
@@ -64,72 +63,65 @@ fn read_or(parts: &mut Vec<Part>, marks: &Marks, sign: u32) -> Result<(), Memory
     Ok(())
 }
 
-/// Puts two parts one behind the other, whose first sign has the number `sign`.
+/// Puts two parts one behind the other, whose first position has the number `position`.
 fn join(
     alloc: Global,
     left: Part,
     right: Part,
     marks: &mut Marks,
-    sign: u32,
+    position: u32,
 ) -> Result<Part, Memory>
-    requires { CanJoin sign left right marks.old }
-    ensures joined { IfOk result (λ r. HasJoined sign left right marks.old r marks.new) }
+    requires { CanJoin position left right marks.old }
+    ensures joined { IfOk result (λ r. HasJoined position left right marks.old r marks.new) }
     ensures width { marks.new.width ≡ marks.old.width }
 {
     if !have_words(&left, &right) {
-        let signs = left.signs + right.signs;
-        marks.clear_rows(sign, sign + signs);
-        return Ok(bare(alloc, false, signs));
+        let positions = left.positions() + right.positions();
+        marks.clear_rows(position, position + positions);
+        return Ok(Part::bare(alloc, false, positions));
     }
-    marks.add_pairs(&left.last, &right.first);
+    marks.add_pairs(left.last(), right.first());
     let part = behind(left, right)?;
     Ok(part)
 }
 
 /// Reads a concatenation.
-fn read_cat(parts: &mut Vec<Part>, marks: &mut Marks, sign: u32) -> Result<(), Memory>
-    requires { CanCombine 2 sign parts.old.items marks.old }
+fn read_cat(parts: &mut Vec<Part>, marks: &mut Marks, position: u32) -> Result<(), Memory>
+    requires { CanCombine 2 position parts.old.items marks.old }
     ensures combined { OnOk result
-        (HasCombined notation.Product sign parts.old.items marks.old sign parts.new.items marks.new) }
+        (HasCombined Node.Cat position parts.old.items marks.old position parts.new.items marks.new) }
     ensures width { marks.new.width ≡ marks.old.width }
 {
     let (left, right) = take_two(parts);
-    let part = join(*parts.allocator(), left, right, marks, sign)?;
+    let part = join(*parts.allocator(), left, right, marks, position)?;
     parts.push(part)?;
     Ok(())
 }
 
-/// The part once or more: each sign that can begin a word then follows each that can end one.
+/// The part once or more: each position that can begin a word then follows each that can end one.
 fn repeated(part: Part, marks: &mut Marks) -> Part
     requires { CanRepeat part marks.old }
     ensures repeated { HasRepeated part marks.old result marks.new }
     ensures width { marks.new.width ≡ marks.old.width }
 {
-    if !part.is_closed {
-        marks.add_pairs(&part.last, &part.first);
+    if !part.is_closed() {
+        marks.add_pairs(part.last(), part.first());
     }
-    Part {
-        is_closed: true,
-        ..part
-    }
+    part.closed()
 }
 
 /// The part once or not.
 fn optional(part: Part) -> Part
     ensures { (n : ℕ) (t : Tree) → IsPart n t part → IsPart n (Opt t) result }
 {
-    Part {
-        has_word: true,
-        has_empty: true,
-        ..part
-    }
+    part.with_empty()
 }
 
 /// Reads `*`.
-fn read_star(parts: &mut Vec<Part>, marks: &mut Marks, sign: u32) -> Result<(), Memory>
-    requires { CanCombine 1 sign parts.old.items marks.old }
+fn read_star(parts: &mut Vec<Part>, marks: &mut Marks, position: u32) -> Result<(), Memory>
+    requires { CanCombine 1 position parts.old.items marks.old }
     ensures combined { OnOk result
-        (HasCombined notation.AnyTimes sign parts.old.items marks.old sign parts.new.items marks.new) }
+        (HasCombined Node.Star position parts.old.items marks.old position parts.new.items marks.new) }
     ensures width { marks.new.width ≡ marks.old.width }
 {
     let part = take_one(parts);
@@ -140,10 +132,10 @@ fn read_star(parts: &mut Vec<Part>, marks: &mut Marks, sign: u32) -> Result<(), 
 }
 
 /// Reads `+`.
-fn read_plus(parts: &mut Vec<Part>, marks: &mut Marks, sign: u32) -> Result<(), Memory>
-    requires { CanCombine 1 sign parts.old.items marks.old }
+fn read_plus(parts: &mut Vec<Part>, marks: &mut Marks, position: u32) -> Result<(), Memory>
+    requires { CanCombine 1 position parts.old.items marks.old }
     ensures combined { OnOk result
-        (HasCombined notation.OnceOrMore sign parts.old.items marks.old sign parts.new.items marks.new) }
+        (HasCombined Node.Plus position parts.old.items marks.old position parts.new.items marks.new) }
     ensures width { marks.new.width ≡ marks.old.width }
 {
     let part = take_one(parts);
@@ -153,10 +145,10 @@ fn read_plus(parts: &mut Vec<Part>, marks: &mut Marks, sign: u32) -> Result<(), 
 }
 
 /// Reads `?`.
-fn read_opt(parts: &mut Vec<Part>, marks: &Marks, sign: u32) -> Result<(), Memory>
-    requires { CanCombine 1 sign parts.old.items marks.now }
+fn read_opt(parts: &mut Vec<Part>, marks: &Marks, position: u32) -> Result<(), Memory>
+    requires { CanCombine 1 position parts.old.items marks.now }
     ensures { OnOk result
-        (HasCombined notation.AtMostOnce sign parts.old.items marks.now sign parts.new.items marks.now) }
+        (HasCombined Node.Opt position parts.old.items marks.now position parts.new.items marks.now) }
 {
     let part = take_one(parts);
     let part = optional(part);
@@ -164,65 +156,65 @@ fn read_opt(parts: &mut Vec<Part>, marks: &Marks, sign: u32) -> Result<(), Memor
     Ok(())
 }
 
-/// Reads the first of the nodes, where those behind it have been read. Returns the number of the first sign.
+/// Reads the first of the nodes, where those behind it have been read. Returns the number of the first position.
 fn read_first(
     nodes: &[Node],
     parts: &mut Vec<Part>,
     marks: &mut Marks,
-    sign: u32,
+    position: u32,
 ) -> Result<u32, Memory>
-    requires { CanRead (map node_of nodes.now) sign parts.old.items marks.old }
+    requires { CanRead nodes.now position parts.old.items marks.old }
     ensures evaluated { IfOk result
-        (λ n. IsEvaluated (notation.trees (map node_of nodes.now)) n parts.new.items marks.new) }
+        (λ n. IsEvaluated (notation.trees nodes.now) n parts.new.items marks.new) }
     ensures width { marks.new.width ≡ marks.old.width }
 {
     match nodes[0] {
         Node::Zero => read_bare(parts, false)?,
         Node::One => read_bare(parts, true)?,
         Node::Letter(_) => {
-            read_sign(parts, sign - 1)?;
-            return Ok(sign - 1);
+            read_position(parts, position - 1)?;
+            return Ok(position - 1);
         }
-        Node::Or => read_or(parts, marks, sign)?,
-        Node::Cat => read_cat(parts, marks, sign)?,
-        Node::Star => read_star(parts, marks, sign)?,
-        Node::Plus => read_plus(parts, marks, sign)?,
-        Node::Opt => read_opt(parts, marks, sign)?,
+        Node::Or => read_or(parts, marks, position)?,
+        Node::Cat => read_cat(parts, marks, position)?,
+        Node::Star => read_star(parts, marks, position)?,
+        Node::Plus => read_plus(parts, marks, position)?,
+        Node::Opt => read_opt(parts, marks, position)?,
     }
-    Ok(sign)
+    Ok(position)
 }
 
 /// Reads all nodes, the last one first.
 fn read_all(nodes: &[Node], parts: &mut Vec<Part>, marks: &mut Marks) -> Result<(), Memory>
-    requires notation { notation.IsNotation (map node_of nodes.now) }
-    requires room { marks.old.width ≡ length (notation.letters (map node_of nodes.now)) + 1 }
+    requires notation { notation.IsNotation nodes.now }
+    requires room { marks.old.width ≡ length (notation.letters nodes.now) + 1 }
     requires narrow { marks.old.width ≤ widest }
     requires bare { (p q : ℕ) → is_marked marks.old p q ≡ false }
     requires none { parts.old.items ≡ [] }
     ensures evaluated { OnOk result
-        (IsEvaluated (notation.trees (map node_of nodes.now)) 1 parts.new.items marks.new) }
+        (IsEvaluated (notation.trees nodes.now) 1 parts.new.items marks.new) }
     ensures width { marks.new.width ≡ marks.old.width }
 {
-    let mut sign = marks.width() as u32;
+    let mut position = marks.width() as u32;
     let mut place = nodes.len();
     while place > 0 {
         place -= 1;
         let (_, rest) = nodes.split_at(place);
-        sign = read_first(rest, parts, marks, sign)?;
+        position = read_first(rest, parts, marks, position)?;
     }
     Ok(())
 }
 
 /// What begins and ends in the expression whose Polish notation is given, and what follows in it.
 pub fn evaluate(alloc: Global, nodes: &[Node], marks: &mut Marks) -> Result<Part, Memory>
-    requires notation { notation.IsNotation (map node_of nodes.now) }
-    requires room { marks.old.width ≡ length (notation.letters (map node_of nodes.now)) + 1 }
+    requires notation { notation.IsNotation nodes.now }
+    requires room { marks.old.width ≡ length (notation.letters nodes.now) + 1 }
     requires narrow { marks.old.width ≤ widest }
     requires bare { (p q : ℕ) → is_marked marks.old p q ≡ false }
-    requires tree { (t : Tree) × (map node_of nodes.now ≡ notation.polish t) }
-    ensures part { IfOk result (λ r. (t : Tree) → map node_of nodes.now ≡ notation.polish t
+    requires tree { (t : Tree) × (nodes.now ≡ notation.polish t) }
+    ensures part { IfOk result (λ r. (t : Tree) → nodes.now ≡ notation.polish t
         → IsPart 1 t r) }
-    ensures marks { OnOk result ((t : Tree) → map node_of nodes.now ≡ notation.polish t
+    ensures marks { OnOk result ((t : Tree) → nodes.now ≡ notation.polish t
         → IsFollowing 1 (t ∷ []) marks.new) }
     ensures width { marks.new.width ≡ marks.old.width }
 {

@@ -3,10 +3,9 @@ ghost use Rattle.std.specs.Prelude.{◌≡◌, IfOk};
 ghost use Rattle.expression_theory.specs.Grammar as grammar;
 ghost use Rattle.expression_theory.specs.Frames as frames;
 ghost use Rattle.regex_reader.specs.Expressions.{tree_of, tree_in};
-ghost use Rattle.regex_reader.specs.Signs.{leaf_of, quantifier_of};
 
 use crate::Expr;
-use crate::sign::{Operand, Quantifier};
+use expression_theory::{Leaf, Quantifier};
 use std::alloc::Global;
 use syn_words::Memory;
 
@@ -18,20 +17,20 @@ pub struct Frame {
 }
 
 /// The tree of a letter, `0` or `1`.
-pub fn leaf(operand: Operand) -> Expr
-    ensures { tree_of result ≡ grammar.leaf_tree (leaf_of operand) }
+pub fn leaf(operand: Leaf) -> Expr
+    ensures { tree_of result ≡ grammar.leaf_tree operand }
 {
     match operand {
-        Operand::Zero => Expr::Zero,
-        Operand::One => Expr::One,
-        Operand::Letter(letter) => Expr::Letter(letter),
+        Leaf::Zero => Expr::Zero,
+        Leaf::One => Expr::One,
+        Leaf::Letter(letter) => Expr::Letter(letter),
     }
 }
 
 /// A piece and a postfix sign behind it.
 pub fn applied(alloc: Global, quantifier: Quantifier, piece: Expr) -> Result<Expr, Memory>
     ensures { IfOk result
-        (λ e. tree_of e ≡ grammar.applied (quantifier_of quantifier) (tree_of piece)) }
+        (λ e. tree_of e ≡ grammar.applied quantifier (tree_of piece)) }
 {
     let part = Box::new(alloc, piece)?;
     Ok(match quantifier {
@@ -47,7 +46,7 @@ fn joined(alloc: Global, sequence: Option<Expr>, piece: Expr) -> Result<Expr, Me
 {
     match sequence {
         None => Ok(piece),
-        Some(front) => Ok(Expr::Cat(Box::new(alloc, front)?, Box::new(alloc, piece)?)),
+        Some(before) => Ok(Expr::Cat(Box::new(alloc, before)?, Box::new(alloc, piece)?)),
     }
 }
 
@@ -58,7 +57,7 @@ fn either(alloc: Global, alternatives: Option<Expr>, sequence: Expr) -> Result<E
 {
     match alternatives {
         None => Ok(sequence),
-        Some(front) => Ok(Expr::Or(Box::new(alloc, front)?, Box::new(alloc, sequence)?)),
+        Some(before) => Ok(Expr::Or(Box::new(alloc, before)?, Box::new(alloc, sequence)?)),
     }
 }
 

@@ -1,5 +1,5 @@
 //! The position automaton (Glushkov).
-ghost use Rattle.std.specs.Prelude.{◌≡◌, ◌+◌, ◌++◌, ◌∷◌, [], ◌<◌, ◌≤◌, ◌&&◌, ◌==◌, ℕ, ◌↔◌, List, length, map, IfOk, OnOk};
+ghost use Rattle.std.specs.Prelude.{◌≡◌, ◌+◌, ◌++◌, ◌∷◌, [], ◌<◌, ◌≤◌, ◌&&◌, ◌==◌, ℕ, ◌↔◌, List, length, IfOk, OnOk};
 ghost use Rattle.std.specs.List.{All};
 ghost use Rattle.language_theory.specs.Automaton.{Automaton, Accepts};
 ghost use Rattle.syn_words.specs.Nfa.{IsSized};
@@ -8,7 +8,6 @@ ghost use Rattle.expression_theory.specs.Positions.{IsPositions, IsWithin};
 ghost use Rattle.expression_theory.specs.FirstLast.{has};
 ghost use Rattle.expression_theory.specs.Polish as notation;
 ghost use Rattle.regex_reader.specs.Expressions.{tree_of};
-ghost use Rattle.regex_reader.specs.Notations.{node_of};
 ghost use Rattle.regex_reader.specs.Marks.{widest, is_marked};
 ghost use Rattle.regex_reader.specs.Growth.{HasFinals, HasGrown, IsOneStep, IsRowStep, IsTableStep, IsBuilt};
 
@@ -16,14 +15,15 @@ use crate::Expr;
 use crate::evaluation::evaluate;
 use crate::marks::Marks;
 use crate::parts::Part;
-use crate::polish::{Node, polish};
+use crate::polish::polish;
+use expression_theory::Node;
 use std::alloc::Global;
 use syn_words::{Memory, Nfa};
 
 /// Appends the letter of a node, if it is one.
 fn push_letter(node: Node, letters: &mut Vec<u8>) -> Result<(), Memory>
     ensures { OnOk result
-        (letters.new.items ≡ letters.old.items ++ notation.letters (node_of node ∷ [])) }
+        (letters.new.items ≡ letters.old.items ++ notation.letters (node ∷ [])) }
 {
     if let Node::Letter(letter) = node {
         letters.push(letter)?;
@@ -31,9 +31,9 @@ fn push_letter(node: Node, letters: &mut Vec<u8>) -> Result<(), Memory>
     Ok(())
 }
 
-/// The letters of the signs, from the left.
-fn sign_letters(alloc: Global, nodes: &[Node]) -> Result<Vec<u8>, Memory>
-    ensures { IfOk result (λ letters. letters.items ≡ notation.letters (map node_of nodes.now)) }
+/// The letters at the positions, from the left.
+fn position_letters(alloc: Global, nodes: &[Node]) -> Result<Vec<u8>, Memory>
+    ensures { IfOk result (λ letters. letters.items ≡ notation.letters nodes.now) }
 {
     let mut letters = Vec::new(alloc);
     for node in nodes {
@@ -64,27 +64,27 @@ fn set_finals(nfa: &mut Nfa, states: &[u32])
     }
 }
 
-/// Adds the step from a state to a sign, where the sign can come next.
+/// Adds the step from a state to a position, where the position can come next.
 fn add_marked_step(
     nfa: &mut Nfa,
     marks: &Marks,
     state: u32,
     letter: u8,
-    sign: u32,
+    position: u32,
 ) -> Result<(), Memory>
     requires states { nfa.old.states ≡ marks.now.width }
     requires state { state < marks.now.width }
     requires letter { letter < nfa.old.letters }
-    requires sign { sign < marks.now.width }
-    ensures { OnOk result (HasGrown nfa.old nfa.new (IsOneStep marks.now state letter sign)) }
+    requires position { position < marks.now.width }
+    ensures { OnOk result (HasGrown nfa.old nfa.new (IsOneStep marks.now state letter position)) }
 {
-    if marks.has(state, sign) {
-        nfa.add_step(state, letter, sign)?;
+    if marks.has(state, position) {
+        nfa.add_step(state, letter, position)?;
     }
     Ok(())
 }
 
-/// Adds the steps from one state, where the letters of the signs are given.
+/// Adds the steps from one state, where the letters of the positions are given.
 fn add_row(nfa: &mut Nfa, marks: &Marks, letters: &[u8], state: u32) -> Result<(), Memory>
     requires states { nfa.old.states ≡ marks.now.width }
     requires state { state < marks.now.width }
@@ -95,13 +95,13 @@ fn add_row(nfa: &mut Nfa, marks: &Marks, letters: &[u8], state: u32) -> Result<(
         (HasGrown nfa.old nfa.new (IsRowStep marks.now letters.now state (length letters.now))) }
 {
     for (place, letter) in letters.iter().enumerate() {
-        let sign = place as u32 + 1;
-        add_marked_step(nfa, marks, state, *letter, sign)?;
+        let position = place as u32 + 1;
+        add_marked_step(nfa, marks, state, *letter, position)?;
     }
     Ok(())
 }
 
-/// Adds the steps from each state, where the letters of the signs are given.
+/// Adds the steps from each state, where the letters of the positions are given.
 fn add_rows(nfa: &mut Nfa, marks: &Marks, letters: &[u8]) -> Result<(), Memory>
     requires states { nfa.old.states ≡ marks.now.width }
     requires letters { All (λ a. a < nfa.old.letters) letters.now }
@@ -117,38 +117,38 @@ fn add_rows(nfa: &mut Nfa, marks: &Marks, letters: &[u8]) -> Result<(), Memory>
     Ok(())
 }
 
-/// Builds the automaton from the signs that can end a word, what follows what, and the letters of the signs.
+/// Builds the automaton from the positions that can end a word, what follows what, and the letters at the positions.
 fn build(
     alloc: Global,
     part: &Part,
     marks: &Marks,
-    signs: &[u8],
+    positions: &[u8],
     letters: u32,
 ) -> Result<Nfa, Memory>
     requires some { 1 ≤ letters }
     requires few { letters ≤ 60 }
-    requires width { marks.now.width ≡ length signs.now + 1 }
+    requires width { marks.now.width ≡ length positions.now + 1 }
     requires narrow { marks.now.width ≤ widest }
-    requires last { All (λ p. p < length signs.now + 1) part.now.last.items }
-    requires letters { All (λ a. a < letters) signs.now }
+    requires last { All (λ p. p < length positions.now + 1) part.now.last }
+    requires letters { All (λ a. a < letters) positions.now }
     ensures { IfOk result
-        (IsBuilt part.now.has_empty part.now.last.items marks.now signs.now letters) }
+        (IsBuilt part.now.has_empty part.now.last marks.now positions.now letters) }
 {
-    let mut nfa = Nfa::new(alloc, signs.len() as u32 + 1, letters)?;
+    let mut nfa = Nfa::new(alloc, positions.len() as u32 + 1, letters)?;
     nfa.set_initial(0);
-    set_final_if(&mut nfa, part.has_empty, 0);
-    set_finals(&mut nfa, &part.last);
-    add_rows(&mut nfa, marks, signs)?;
+    set_final_if(&mut nfa, part.has_empty(), 0);
+    set_finals(&mut nfa, part.last());
+    add_rows(&mut nfa, marks, positions)?;
     Ok(nfa)
 }
 
 /// The position automaton of an expression over the first `letters` letters. It accepts exactly the expression's words.
 ///
 /// Condition: the expression has at most 4,000 nodes, `letters` is from 1 to 60, and every letter is below `letters`.
-/// State 0 is the only initial state, and state i is the i-th letter sign from the left. A step leads from 0 to each
-/// sign that can begin a word, and from a sign to each that can follow it, where each sign counts as a letter of its
-/// own: a sign that stands in no word has no step. Final are the signs that can end a word, and 0 where the empty word
-/// belongs (Glushkov).
+/// State 0 is the only initial state, and state i is the i-th position from the left: a position is an occurrence of a
+/// letter. A step leads from 0 to each position that can begin a word, and from a position to each that can follow it,
+/// where each position counts as a letter of its own: a position that stands in no word has no step. Final are the
+/// positions that can end a word, and 0 where the empty word belongs (Glushkov).
 pub fn positions(alloc: Global, expr: &Expr, letters: u32) -> Result<Nfa, Memory>
     requires within { IsWithin letters (tree_of expr.now) }
     requires some { 1 ≤ letters }
@@ -157,10 +157,10 @@ pub fn positions(alloc: Global, expr: &Expr, letters: u32) -> Result<Nfa, Memory
     ensures language { IfOk result (λ m. (w : List ℕ) → Accepts m w ↔ Means (tree_of expr.now) w) }
 {
     let nodes = polish(alloc, expr)?;
-    let signs = sign_letters(alloc, &nodes)?;
-    let mut marks = Marks::new(alloc, signs.len() + 1)?;
+    let positions = position_letters(alloc, &nodes)?;
+    let mut marks = Marks::new(alloc, positions.len() + 1)?;
     let part = evaluate(alloc, &nodes, &mut marks)?;
-    marks.add_row(0, &part.first);
-    let nfa = build(alloc, &part, &marks, &signs, letters)?;
+    marks.add_row(0, part.first());
+    let nfa = build(alloc, &part, &marks, &positions, letters)?;
     Ok(nfa)
 }

@@ -1,30 +1,17 @@
 //! Polish notation of an expression: its nodes, each before its parts.
-ghost use Rattle.std.specs.Prelude.{◌≡◌, ◌∷◌, map, IfOk};
+ghost use Rattle.std.specs.Prelude.{◌≡◌, ◌∷◌, IfOk};
 ghost use Rattle.expression_theory.specs.Polish as notation;
-ghost use Rattle.regex_reader.specs.Expressions.{tree_of};
-ghost use Rattle.regex_reader.specs.Notations.{node_of, waiting_trees};
+ghost use Rattle.regex_reader.specs.Expressions.{tree_of, waiting_trees};
 
 use crate::Expr;
+use expression_theory::Node;
 use std::alloc::Global;
 use syn_words::Memory;
-
-/// A node without its parts.
-#[derive(Clone, Copy)]
-pub enum Node {
-    Zero,
-    One,
-    Letter(u8),
-    Or,
-    Cat,
-    Star,
-    Plus,
-    Opt,
-}
 
 /// The root of an expression, whose parts are put on top of those that wait, the left one last.
 fn take_root<'a>(expr: &'a Expr, waiting: &mut Vec<&'a Expr>) -> Result<Node, Memory>
     ensures { IfOk result
-        (λ n. node_of n ∷ notation.polish_all
+        (λ n. n ∷ notation.polish_all
         (waiting_trees waiting.new.items) ≡ notation.polish_all
         (tree_of expr.now ∷ waiting_trees waiting.old.items)) }
 {
@@ -59,7 +46,7 @@ fn take_root<'a>(expr: &'a Expr, waiting: &mut Vec<&'a Expr>) -> Result<Node, Me
 
 /// The Polish notation of an expression.
 pub fn polish(alloc: Global, expr: &Expr) -> Result<Vec<Node>, Memory>
-    ensures { IfOk result (λ nodes. map node_of nodes.items ≡ notation.polish (tree_of expr.now)) }
+    ensures { IfOk result (λ nodes. nodes.items ≡ notation.polish (tree_of expr.now)) }
 {
     let mut nodes = Vec::new(alloc);
     let mut waiting = Vec::new(alloc);

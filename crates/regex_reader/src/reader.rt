@@ -1,22 +1,20 @@
 //! A reader of signs, which goes from the left.
 ghost use Rattle.std.specs.Prelude.{◌≡◌, ◌∷◌, [], ◌≤◌, length, MatchResult, None};
-ghost use Rattle.expression_theory.specs.Grammar as grammar;
 ghost use Rattle.expression_theory.specs.Frames as frames;
 ghost use Rattle.expression_theory.specs.Scan as scan;
 ghost use Rattle.regex_reader.specs.Expressions.{tree_of};
-ghost use Rattle.regex_reader.specs.Signs.{class_of, leaf_of, quantifier_of};
 ghost use Rattle.regex_reader.specs.Readers.{is_due, frame_of, frames_of, IsFaultAt, failing_here, HasRead, IsReader};
 
 use crate::frames::{Frame, applied, leaf, settle, whole};
-use crate::sign::{Class, Operand, Quantifier, Sign};
 use crate::{Expr, ExprFault};
+use expression_theory::{Class, Leaf, Quantifier, Sign};
 use std::alloc::Global;
 
 /// At most so many parentheses are open.
-const DEPTH: usize = 200;
+const MOST_OPEN: usize = 200;
 
 /// A tree has at most so many nodes.
-const NODES: u32 = 4000;
+const MOST_NODES: u32 = 4000;
 
 /// What was read up to a byte.
 #[derive(Drop)]
@@ -60,21 +58,16 @@ fn within_nodes(nodes: u32, at: u64) -> Result<u32, ExprFault>
     ensures { MatchResult result (λ n. (n ≡ nodes)
         × (scan.size_test nodes ≡ None)) (λ f. IsFaultAt (scan.size_test nodes) at f) }
 {
-    if nodes > NODES {
+    if nodes > MOST_NODES {
         return Err(ExprFault::TooLarge { at });
     }
     Ok(nodes)
 }
 
 /// Reads a letter, `0` or `1`.
-fn read_operand(
-    alloc: Global,
-    reader: Reader,
-    operand: Operand,
-    at: u64,
-) -> Result<Reader, ExprFault>
+fn read_operand(alloc: Global, reader: Reader, operand: Leaf, at: u64) -> Result<Reader, ExprFault>
     requires { IsReader reader }
-    ensures { let class = scan.Good (grammar.Operand (leaf_of operand)) in
+    ensures { let class = Class.Good (Sign.Operand operand) in
         MatchResult result (HasRead reader class) (IsFaultAt (failing_here reader class) at) }
 {
     let cost = if reader.piece.is_none() { 1 } else { 2 };
@@ -91,10 +84,10 @@ fn read_operand(
 /// Reads `(`.
 fn read_open(alloc: Global, reader: Reader, at: u64) -> Result<Reader, ExprFault>
     requires { IsReader reader }
-    ensures { MatchResult result (HasRead reader (scan.Good grammar.Open))
-        (IsFaultAt (failing_here reader (scan.Good grammar.Open)) at) }
+    ensures { MatchResult result (HasRead reader (Class.Good Sign.Open))
+        (IsFaultAt (failing_here reader (Class.Good Sign.Open)) at) }
 {
-    if reader.waiting.len() >= DEPTH {
+    if reader.waiting.len() >= MOST_OPEN {
         return Err(ExprFault::TooDeep { at });
     }
     let cost = if reader.piece.is_none() { 0 } else { 1 };
@@ -112,8 +105,8 @@ fn read_open(alloc: Global, reader: Reader, at: u64) -> Result<Reader, ExprFault
 /// Reads `|`.
 fn read_bar(alloc: Global, reader: Reader, at: u64) -> Result<Reader, ExprFault>
     requires { IsReader reader }
-    ensures { MatchResult result (HasRead reader (scan.Good grammar.Bar))
-        (IsFaultAt (failing_here reader (scan.Good grammar.Bar)) at) }
+    ensures { MatchResult result (HasRead reader (Class.Good Sign.Bar))
+        (IsFaultAt (failing_here reader (Class.Good Sign.Bar)) at) }
 {
     let Reader {
         waiting,
@@ -145,7 +138,7 @@ fn read_postfix(
     at: u64,
 ) -> Result<Reader, ExprFault>
     requires { IsReader reader }
-    ensures { let class = scan.Good (grammar.Postfix (quantifier_of quantifier)) in
+    ensures { let class = Class.Good (Sign.Postfix quantifier) in
         MatchResult result (HasRead reader class) (IsFaultAt (failing_here reader class) at) }
 {
     let Reader {
@@ -170,8 +163,8 @@ fn read_postfix(
 /// Reads `)`.
 fn read_close(alloc: Global, reader: Reader, at: u64) -> Result<Reader, ExprFault>
     requires { IsReader reader }
-    ensures { MatchResult result (HasRead reader (scan.Good grammar.Close))
-        (IsFaultAt (failing_here reader (scan.Good grammar.Close)) at) }
+    ensures { MatchResult result (HasRead reader (Class.Good Sign.Close))
+        (IsFaultAt (failing_here reader (Class.Good Sign.Close)) at) }
 {
     let Reader {
         mut waiting,
@@ -197,8 +190,8 @@ fn read_close(alloc: Global, reader: Reader, at: u64) -> Result<Reader, ExprFaul
 /// Reads a byte of a class, at a place.
 pub fn read_class(alloc: Global, reader: Reader, class: Class, at: u64) -> Result<Reader, ExprFault>
     requires { IsReader reader }
-    ensures { MatchResult result (HasRead reader (class_of class))
-        (IsFaultAt (failing_here reader (class_of class)) at) }
+    ensures { MatchResult result (HasRead reader class)
+        (IsFaultAt (failing_here reader class) at) }
 {
     match class {
         Class::Skipped => Ok(reader),

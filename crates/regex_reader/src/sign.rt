@@ -1,53 +1,16 @@
 //! What a byte of a text is.
 ghost use Rattle.std.specs.Prelude.{◌≡◌, ◌≤◌, length};
 ghost use Rattle.expression_theory.specs.Scan as scan;
-ghost use Rattle.regex_reader.specs.Signs.{class_of};
 
-/// A sign that is a part of its own.
-#[derive(Clone, Copy)]
-pub enum Operand {
-    Zero,
-    One,
-    Letter(u8),
-}
-
-/// A postfix sign.
-#[derive(Clone, Copy)]
-pub enum Quantifier {
-    Star,
-    Plus,
-    Opt,
-}
-
-/// A sign of an expression.
-#[derive(Clone, Copy)]
-pub enum Sign {
-    Operand(Operand),
-    Bar,
-    Postfix(Quantifier),
-    Open,
-    Close,
-}
-
-/// The class of a byte.
-#[derive(Clone, Copy)]
-pub enum Class {
-    /// A space or a tab.
-    Skipped,
-    /// A lower-case letter that is not in the alphabet.
-    Unknown,
-    /// No sign.
-    Strange,
-    Good(Sign),
-}
+use expression_theory::{Class, Leaf, Quantifier, Sign};
 
 /// The class of a lower-case letter under an alphabet, which is given by its letters' bytes in order.
 fn letter_class(byte: u8, letters: &[u8]) -> Class
     requires { length letters.now ≤ 26 }
-    ensures { class_of result ≡ scan.letter_class letters.now byte }
+    ensures { result ≡ scan.letter_class letters.now byte }
 {
     match letters.iter().position(|letter| *letter == byte) {
-        Some(place) => Class::Good(Sign::Operand(Operand::Letter(place as u8))),
+        Some(place) => Class::Good(Sign::Operand(Leaf::Letter(place as u8))),
         None => Class::Unknown,
     }
 }
@@ -55,13 +18,13 @@ fn letter_class(byte: u8, letters: &[u8]) -> Class
 /// The class of a byte under an alphabet, which is given by its letters' bytes in order.
 pub fn classify(byte: u8, letters: &[u8]) -> Class
     requires { length letters.now ≤ 26 }
-    ensures { class_of result ≡ scan.class_of letters.now byte }
+    ensures { result ≡ scan.class_of letters.now byte }
 {
     match byte {
         b'a'..=b'z' => letter_class(byte, letters),
         b' ' | b'\t' => Class::Skipped,
-        b'0' => Class::Good(Sign::Operand(Operand::Zero)),
-        b'1' => Class::Good(Sign::Operand(Operand::One)),
+        b'0' => Class::Good(Sign::Operand(Leaf::Zero)),
+        b'1' => Class::Good(Sign::Operand(Leaf::One)),
         b'|' => Class::Good(Sign::Bar),
         b'*' => Class::Good(Sign::Postfix(Quantifier::Star)),
         b'+' => Class::Good(Sign::Postfix(Quantifier::Plus)),

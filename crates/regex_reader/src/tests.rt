@@ -102,7 +102,7 @@ fn ab_star(rt: HostRuntime) -> Result<(), ExprFault> {
 }
 
 #[test]
-fn dead_sign(rt: HostRuntime) -> Result<(), ExprFault> {
+fn dead_position(rt: HostRuntime) -> Result<(), ExprFault> {
     let nfa = automaton(rt.alloc(), b"a0|b")?;
     assert_eq!(rt; nfa.states(), 3);
     assert_eq!(rt; nfa.steps().len(), 1);

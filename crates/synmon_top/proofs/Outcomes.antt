@@ -5,7 +5,7 @@ use Rattle.std.specs.Io.KnownBytes.{Appends}
 use Rattle.std.proofs.KnownBytes.{Appends-nil}
 use Rattle.syn_outside.specs.NamedFiles.{NamedFiles, bytes_of, HasPrefix}
 use Rattle.automaton_file.specs.FileText.{SourceText, IsSource, IsRefusal, language_of, most_bytes}
-use Rattle.automaton_file.proofs.SourceLaws.{front_spells, front_refused}
+use Rattle.automaton_file.proofs.SourceLaws.{prefix_spells, prefix_refused}
 use Rattle.command_line.specs.declared.commands.Command.{Command}
 use Rattle.command_line.specs.declared.commands.Command.TheVariants as command
 use Rattle.command_line.specs.declared.request.Request.{Request}
@@ -54,16 +54,16 @@ verdict_of_prefix : (file : List ℕ) (task : Task) (v : Verdict)
     → IsVerdict (take (most_bytes + 1) file) task v → IsVerdict file task v
 verdict_of_prefix file task (said text) on = record {
   source = on.source;
-  spelled = subst (λ b. IsSource b on.source) (front_spells file on.source on.spelled) on.spelled;
+  spelled = subst (λ b. IsSource b on.source) (prefix_spells file on.source on.spelled) on.spelled;
   unstopped = on.unstopped;
   report = on.report;
 }
 verdict_of_prefix file task (stopped s) on = record {
   source = on.source;
-  spelled = subst (λ b. IsSource b on.source) (front_spells file on.source on.spelled) on.spelled;
+  spelled = subst (λ b. IsSource b on.source) (prefix_spells file on.source on.spelled) on.spelled;
   passed = on.passed;
 }
-verdict_of_prefix file task (refused at code) h = front_refused file at code h
+verdict_of_prefix file task (refused at code) h = prefix_refused file at code h
 
 -- the verdict on what was read of a file is due
 due : (held : Option NamedFiles) (words : List (List ℕ)) (bytes : List ℕ) (request : Request)

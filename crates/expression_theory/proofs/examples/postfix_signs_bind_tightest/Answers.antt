@@ -1,3 +1,4 @@
+use Rattle.expression_theory.proofs.Ab.{abb_read}
 use Rattle.expression_theory.proofs.Spelled.{ab_star_or_b, a_space_b, a_tab_b, abb, a_or_b_or_a, a_plus_opt, zero_or_one}
 use Rattle.expression_theory.proofs.examples.postfix_signs_bind_tightest.Goals as goal
 
@@ -21,3 +22,6 @@ returns-clause-postfixes c = a_plus_opt
 
 pub returns-clause-constants : goal.returns-clause-constants
 returns-clause-constants c = zero_or_one
+
+pub returns-clause-read : goal.returns-clause-read
+returns-clause-read c = abb_read

@@ -1,3 +1,4 @@
+use Rattle.expression_theory.proofs.Ab.{star_empty}
 use Rattle.expression_theory.specs.Expression.{nothing}
 use Rattle.expression_theory.proofs.SomeWords.{abab, a_once}
 use Rattle.expression_theory.proofs.examples.words_of_expressions.Goals as goal
@@ -10,3 +11,6 @@ returns-clause-twice c = abab
 
 pub returns-clause-once : goal.returns-clause-once
 returns-clause-once c = a_once
+
+pub returns-clause-computed : goal.returns-clause-computed
+returns-clause-computed c = star_empty

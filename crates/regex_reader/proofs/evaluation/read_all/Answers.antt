@@ -1,26 +1,25 @@
-use Rattle.std.proofs.Common.{rules, arith, ◌≡◌, ◌+◌, ◌-◌, ◌<◌, ◌≤◌, length, map, drop, sym, ap, subst, ◌∙◌}
-use Rattle.std.proofs.lemmas.List.{drop-map, length-map}
+use Rattle.std.proofs.Common.{rules, arith, ◌≡◌, ◌+◌, ◌-◌, ◌<◌, ◌≤◌, length, drop, sym, subst, ◌∙◌}
 use Rattle.expression_theory.specs.Polish as notation
-use Rattle.regex_reader.specs.Notations.{node_of}
 use Rattle.regex_reader.specs.Parts.{IsEvaluated, CanRead}
 use Rattle.regex_reader.proofs.Nodes.{can_read, all_read}
 use Rattle.regex_reader.proofs.evaluation.read_all.Goals as goal
+use Rattle.regex_reader.specs.Marks.{widest}
 
 pub read_first-requires : goal.read_first-requires
 read_first-requires c =
-    let ns = map node_of c.args.nodes.now in
+    let ns = c.args.nodes.now in
     let i = c.loop-place.place - 1 in
     let above : 0 < c.loop-place.place = c.loop-place-test.true in
     let inside : c.loop-place.place ≤ length c.args.nodes.now = c.loop-place.invariant.place in
     let e : c.loop-place.place ≡ i + 1 = omega arith in
     let w = c.loop-place.invariant.width in
     let width : c.loop-place.marks.width ≡ length (notation.letters ns) + 1 = w ∙ c.requires.room in
-    let can : CanRead (drop i ns) c.loop-place.sign c.loop-place.parts.items c.loop-place.marks =
-    can_read ns i c.loop-place.sign c.loop-place.parts.items c.loop-place.marks c.requires.notation width (subst (λ k. k ≤ 4001) (sym w) c.requires.narrow)
-    (omega (arith, length-map c.args.nodes.now node_of))
-    (subst (λ k. IsEvaluated (notation.trees (drop k ns)) c.loop-place.sign c.loop-place.parts.items c.loop-place.marks) e c.loop-place.invariant.evaluated) in
+    let can : CanRead (drop i ns) c.loop-place.position c.loop-place.parts.items c.loop-place.marks =
+    can_read ns i c.loop-place.position c.loop-place.parts.items c.loop-place.marks c.requires.notation width (subst (λ k. k ≤ widest) (sym w) c.requires.narrow)
+    (omega arith)
+    (subst (λ k. IsEvaluated (notation.trees (drop k ns)) c.loop-place.position c.loop-place.parts.items c.loop-place.marks) e c.loop-place.invariant.evaluated) in
     let rest : c.split_at.result.1.now ≡ drop i c.args.nodes.now = search rules in
-    subst (λ ms. CanRead ms c.loop-place.sign c.loop-place.parts.items c.loop-place.marks) (drop-map node_of i c.args.nodes.now ∙ ap (map node_of) (sym rest)) can
+    subst (λ ms. CanRead ms c.loop-place.position c.loop-place.parts.items c.loop-place.marks) (sym rest) can
 
 pub loop-place-preserved : goal.loop-place-preserved
 loop-place-preserved c =
@@ -28,13 +27,13 @@ loop-place-preserved c =
     let rest : c.split_at.result.1.now ≡ drop (c.loop-place.place - 1) c.args.nodes.now = search rules in
     record {
       place = omega arith;
-      width = c.in_ok-sign.ensures.width ∙ c.loop-place.invariant.width;
+      width = c.in_ok-position.ensures.width ∙ c.loop-place.invariant.width;
       evaluated =
-          subst (λ ms. IsEvaluated (notation.trees ms) c.in_ok-sign.sign c.read_first.new.parts.items c.read_first.new.marks)
-          (ap (map node_of) rest ∙ sym (drop-map node_of (c.loop-place.place - 1) c.args.nodes.now)) c.in_ok-sign.ensures.evaluated;
+          subst (λ ms. IsEvaluated (notation.trees ms) c.in_ok-position.position c.read_first.new.parts.items c.read_first.new.marks)
+          rest c.in_ok-position.ensures.evaluated;
     }
 
 pub returns-clause-evaluated : goal.returns-clause-evaluated
 returns-clause-evaluated c =
-    all_read (map node_of c.args.nodes.now) c.loop-place.place c.loop-place.sign c.loop-place.parts.items c.loop-place.marks c.requires.notation
+    all_read c.args.nodes.now c.loop-place.place c.loop-place.position c.loop-place.parts.items c.loop-place.marks c.requires.notation
     (c.loop-place.invariant.width ∙ c.requires.room) c.loop-place-test.false c.loop-place.invariant.evaluated

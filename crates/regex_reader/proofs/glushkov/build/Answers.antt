@@ -1,4 +1,4 @@
-use Rattle.std.proofs.Common.{◌+◌, length, refl, ap, subst, ◌∙◌}
+use Rattle.std.proofs.Common.{◌+◌, ◌&&◌, ◌==◌, length, refl, ap, subst, ◌∙◌}
 use Rattle.language_theory.specs.Automaton.{Automaton}
 use Rattle.syn_words.specs.Nfa.{with_initial}
 use Rattle.expression_theory.specs.FirstLast.{has}
@@ -8,8 +8,10 @@ use Rattle.regex_reader.proofs.glushkov.build.Goals as goal
 
 pub returns : goal.returns
 returns c =
-    let last : HasFinals c.set_final_if.new.nfa c.set_finals.new.nfa (has c.args.part.now.last.items) =
-    subst (λ xs. HasFinals c.set_final_if.new.nfa c.set_finals.new.nfa (has xs)) c.deref.ensures.value c.set_finals.ensures in
-    built_from (length c.args.signs.now + 1) c.args.letters c.args.part.now.has_empty c.args.part.now.last.items c.args.marks.now c.args.signs.now
+    let last : HasFinals c.set_final_if.new.nfa c.set_finals.new.nfa (has c.args.part.now.last) =
+    subst (λ xs. HasFinals c.set_final_if.new.nfa c.set_finals.new.nfa (has xs)) c.last.ensures c.set_finals.ensures in
+    let empty : HasFinals c.set_initial.new.self c.set_final_if.new.nfa (λ p. c.args.part.now.has_empty && (0 == p)) =
+    subst (λ b. HasFinals c.set_initial.new.self c.set_final_if.new.nfa (λ p. b && (0 == p))) c.has_empty.ensures c.set_final_if.ensures in
+    built_from (length c.args.positions.now + 1) c.args.letters c.args.part.now.has_empty c.args.part.now.last c.args.marks.now c.args.positions.now
     c.set_initial.new.self c.set_final_if.new.nfa c.set_finals.new.nfa c.add_rows.new.nfa
-    (c.set_initial.ensures ∙ ap (λ (m : Automaton). with_initial m 0) c.in_ok-nfa.ensures.bare) c.set_final_if.ensures last c.in_ok-add_rows.ensures refl c.requires.width
+    (c.set_initial.ensures ∙ ap (λ (m : Automaton). with_initial m 0) c.in_ok-nfa.ensures.bare) empty last c.in_ok-add_rows.ensures refl c.requires.width

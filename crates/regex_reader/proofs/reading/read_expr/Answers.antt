@@ -4,18 +4,18 @@ use Rattle.expression_theory.specs.Scan as scan
 use Rattle.expression_theory.specs.Scan.{classes, SpellsTree}
 use Rattle.expression_theory.specs.Positions.{IsWithin}
 use Rattle.regex_reader.specs.Expressions.{tree_of}
-use Rattle.regex_reader.specs.Signs.{class_of}
 use Rattle.regex_reader.proofs.Between.{IsDone, between_more, between_done, done_within}
 use Rattle.regex_reader.proofs.reading.read_expr.Goals as goal
+use Rattle.expression_theory.specs.declared.signs.Class.TheVariants.{Strange}
 
 pub loop-at-preserved : goal.loop-at-preserved
 loop-at-preserved c =
     let letters = c.letters-letters.result.now in
     let text = c.args.text.now in
     let b : c.loop-at.at < length text = omega arith in
-    let e : get_or (classes letters text) c.loop-at.at scan.Strange ≡ class_of c.classify.result =
-    get_or-map (scan.class_of letters) text c.loop-at.at 0 scan.Strange b ∙ sym c.classify.ensures in
-    between_more (classes letters text) c.loop-at.at c.loop-at.reader c.in_ok-reader.reader (class_of c.classify.result) c.loop-at.invariant
+    let e : get_or (classes letters text) c.loop-at.at Strange ≡ c.classify.result =
+    get_or-map (scan.class_of letters) text c.loop-at.at 0 Strange b ∙ sym c.classify.ensures in
+    between_more (classes letters text) c.loop-at.at c.loop-at.reader c.in_ok-reader.reader c.classify.result c.loop-at.invariant
     (omega (arith, length-map text (scan.class_of letters))) e c.in_ok-reader.ensures
 
 pub returns-clause-spells : goal.returns-clause-spells

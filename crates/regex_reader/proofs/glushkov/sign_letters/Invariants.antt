@@ -1,7 +1,0 @@
-use Rattle.std.proofs.Common.{◌≡◌, ◌++◌, map, drop}
-use Rattle.expression_theory.specs.Polish as notation
-use Rattle.regex_reader.specs.Notations.{node_of}
-use Rattle.regex_reader.proofs.glushkov.sign_letters.Given as goal
-
-abbrev pub invariant-loop-node : goal.invariant-loop-node
-invariant-loop-node l = l.letters.items ++ notation.letters (map node_of (drop l.node-index l.nodes)) ≡ notation.letters (map node_of l.nodes)
