@@ -1,0 +1,9 @@
+pub mod Order
+pub mod LeftRows
+pub mod Spelling
+pub mod LinkLaws
+pub mod LookUps
+pub mod Linking
+pub mod FromRight
+pub mod AgreeingGraphs
+pub mod Examples

@@ -1,0 +1,4 @@
+pub mod CayleyGraphs
+pub mod Links
+pub mod LeftRows
+pub mod Tables
