@@ -85,7 +85,13 @@ alphabet_spelled line e =
     let both = and_parts (begins_with (codes "alphabet") (fields line))
     (is_alphabet (letters_of (fields line))) (test_passed _ wrong.Alphabet e) in
     let first = word_first (codes "alphabet") (fields line) both.0 in
-    record { pieces = first.0; stands = first.1; joined = ap letters_of first.1; letters = from_alphabet_test _ both.1 }
+    record {
+      pieces = first.0;
+      stands = first.1;
+      joined = ap letters_of first.1;
+      letters =
+          from_alphabet_test _ both.1;
+    }
 
 pub spelled_letters : (alphabet line : List ℕ) → SpellsAlphabet alphabet line
     → alphabet ≡ letters_in line
@@ -101,8 +107,10 @@ spelled_alphabet alphabet line h =
 
 pub alphabet_part : (line : List ℕ) → alphabet_fault (fields line) ≡ None
     ↔ ((alphabet : List ℕ) × SpellsAlphabet alphabet line)
-alphabet_part line =
-    (λ e. (letters_in line, alphabet_spelled line e), λ (alphabet, h). spelled_alphabet alphabet line h)
+alphabet_part line = (
+  λ e. (letters_in line, alphabet_spelled line e),
+  λ (alphabet, h). spelled_alphabet alphabet line h,
+)
 
 -- the body line
 
@@ -111,7 +119,8 @@ count_spelled : (line : Fields) (n : ℕ) → count_of line ≡ n → n ≢ 0 �
 count_spelled [] n e h = absurd (h (sym e))
 count_spelled (number ∷ []) n e h = by (number_below (most_states + 1) number) refl
   where
-    by : (o : Option ℕ) → number_below (most_states + 1) number ≡ o → (number ∷ [] ≡ decimal n ∷ []) × (n ≤ most_states)
+    by : (o : Option ℕ) → number_below (most_states + 1) number ≡ o → (number ∷ [] ≡ decimal n ∷ [])
+        × (n ≤ most_states)
     by None found = absurd (h (sym e ∙ ap (λ (o : Option ℕ). unwrap_or o 0) found))
     by (Some m) found =
         let spelled = number_below_spelled (most_states + 1) m number (omega arith) found in
@@ -217,7 +226,8 @@ states_fields word states (field ∷ numbers) few e =
       numbers,
       ap (λ (w : List ℕ). w ∷ numbers) (same_bytes field word both.0),
       All-weaker
-          (λ f. is_state states f ≡ true) (IsState states) (λ f. state_of states f few) numbers each,
+          (λ f. is_state states f ≡ true) (IsState states) (λ f. state_of states f few) numbers
+          each,
     )
 
 pub states_of_line : (word : List ℕ) (states : ℕ) (line : List ℕ) → states ≤ most_states
@@ -296,8 +306,18 @@ step_fields alphabet states (from ∷ letter ∷ to ∷ other ∷ more) few e = 
 pub step_of_line : (alphabet : List ℕ) (states : ℕ) (line : List ℕ) → states ≤ most_states
     → step_fault alphabet states (fields line) ≡ None → IsStepLine alphabet states line
 step_of_line alphabet states line few e =
-    let parts = step_fields alphabet states (fields line) few e in
-    (parts.0, parts.1, parts.2, record { stands = parts.3; from_state = parts.4; of_alphabet = parts.5; to_state = parts.6 })
+    let parts = step_fields alphabet states (fields line) few e in (
+      parts.0,
+      parts.1,
+      parts.2,
+      record {
+        stands = parts.3;
+        from_state = parts.4;
+        of_alphabet =
+            parts.5;
+        to_state = parts.6;
+      },
+    )
 
 pub line_of_step : (alphabet : List ℕ) (states p a q : ℕ) (line : List ℕ) → IsAlphabet alphabet
     → states ≤ most_states → SpellsStep alphabet states p a q line
@@ -320,5 +340,7 @@ states_part word states line few =
 pub step_part : (alphabet : List ℕ) (states : ℕ) (line : List ℕ) → IsAlphabet alphabet
     → states ≤ most_states → step_fault alphabet states (fields line) ≡ None
     ↔ IsStepLine alphabet states line
-step_part alphabet states line is few =
-    (step_of_line alphabet states line few, λ (p, a, q, h). line_of_step alphabet states p a q line is few h)
+step_part alphabet states line is few = (
+  step_of_line alphabet states line few,
+  λ (p, a, q, h). line_of_step alphabet states p a q line is few h,
+)

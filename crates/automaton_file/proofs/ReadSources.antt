@@ -108,7 +108,13 @@ expression_spelled header letters body [] t (p1, (p2, (p3, rest))) e tree =
       is_header = (header_test header).0 p1;
       is_alphabet = alphabet_spelled letters p2;
       is_body =
-          record { more = begun.more; stands = begun.stands; accepted = begun.accepted; spelled = tree };
+          record {
+            more = begun.more;
+            stands = begun.stands;
+            accepted = begun.accepted;
+            spelled =
+                tree;
+          };
     }
 
 lines_spelled : (lines : Lines) (source : SourceText) → PartsPass [] lines → is_whole lines ≡ true
@@ -198,7 +204,11 @@ automaton_read lines alphabet m h =
             spelled_count_body (letters_in h.letters) h.states h.body h.is_body,
             (
               marks (codes "initial") h.initial h.is_initial,
-              (marks (codes "final") h.final h.is_final, steps_read h.header h.letters h.body h.initial h.final [] h.steps is no_expr few each),
+              (
+                marks (codes "final") h.final h.is_final,
+                steps_read h.header h.letters h.body h.initial h.final [] h.steps is no_expr few
+                    each,
+              ),
             ),
           ),
         ),
@@ -241,8 +251,10 @@ automaton_read lines alphabet m h =
         (bare (state_count (fields h.body)) (length (letters_in h.letters)))
         (h.initial ∷ h.final ∷ h.steps)
     read =
-        one_spelled alphabet h.states h.initial h.final h.steps m _ h.is_alphabet.letters h.is_body.few h.spelled
-        (read_is_spelled alphabet h.states h.initial h.final h.steps h.is_alphabet.letters h.is_body.few h.is_initial h.is_final h.are_steps)
+        one_spelled alphabet h.states h.initial h.final h.steps m _ h.is_alphabet.letters
+        h.is_body.few h.spelled
+        (read_is_spelled alphabet h.states h.initial h.final h.steps h.is_alphabet.letters
+        h.is_body.few h.is_initial h.is_final h.are_steps)
         ∙ ap (λ (a : List ℕ). automaton_of a (bare h.states (length a))
         (h.initial ∷ h.final ∷ h.steps)) same
         ∙ ap (λ (n : ℕ). automaton_of (letters_in h.letters)
@@ -252,7 +264,13 @@ expression_read : (lines : Lines) (alphabet : List ℕ) (t : Tree)
     → SpellsExpressionFile lines alphabet t → AreRead lines alphabet (OfExpression t)
 expression_read lines alphabet t h =
     subst (λ (ls : Lines). AreRead ls alphabet (OfExpression t)) (sym h.order) (
-      ((header_test h.header).1 h.is_header, (spelled_alphabet alphabet h.letters h.is_alphabet, (spelled_expression_body (letters_in h.letters) t h.body body, tt))),
+      (
+        (header_test h.header).1 h.is_header,
+        (
+          spelled_alphabet alphabet h.letters h.is_alphabet,
+          (spelled_expression_body (letters_in h.letters) t h.body body, tt),
+        ),
+      ),
       ap (λ (b : Bool). b || false) expr,
       (same, (expr, body.spelled)),
     )

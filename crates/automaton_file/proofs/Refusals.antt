@@ -224,7 +224,12 @@ pub fault_refusal : (bytes : List ℕ) (line code : ℕ) (fault : Wrong) → len
     → first_fault [] 1 (text_lines bytes) ≡ Some (line, fault) → code ≡ code_of fault
     → IsRefusal bytes line code
 fault_refusal bytes line code fault short found number =
-    record { fault = fault; is_wrong = fault_is_wrong bytes line fault short found; number = number }
+    record {
+      fault = fault;
+      is_wrong = fault_is_wrong bytes line fault short found;
+      number =
+          number;
+    }
 
 -- a body line that passes its tests spells a body
 some_body : (letters line : List ℕ) (more : Lines) → body_fault letters line ≡ None

@@ -117,14 +117,16 @@ is_marked_with row (f ∷ fs) p small within h =
     by (inr any) = spelled (any_cases (SpellsNumber p) f fs any)
 
 -- a row without marks, with those of a line
-row_of_line : (word line : List ℕ) (states p : ℕ) → states ≤ most_states → IsStatesLine word states line
+row_of_line : (word line : List ℕ) (states p : ℕ) → states ≤ most_states
+    → IsStatesLine word states line
     → p < states
     → IsTrue (is_marked (row_with (replicate states false) (drop 1 (fields line))) p) ↔ Names line p
 row_of_line word line states p few h within = (
   λ k. to (marked_is (replicate states false) states
       (drop 1 (fields line)) p few each k),
   λ any. is_marked_with (replicate states false)
-      (drop 1 (fields line)) p (omega arith) (omega (arith, length-replicate states false)) (inr any),
+      (drop 1 (fields line)) p (omega arith) (omega (arith, length-replicate states false))
+      (inr any),
 )
   where
     each : All (IsState states) (drop 1 (fields line))
@@ -178,7 +180,8 @@ same_letter alphabet a b is ha hb e = by (cases_order a b)
 
 -- a line spells one step
 one_step : (alphabet : List ℕ) (states p a q x b y : ℕ) (line : List ℕ) → IsAlphabet alphabet
-    → states ≤ most_states → SpellsStep alphabet states p a q line → SpellsStep alphabet states x b y line
+    → states ≤ most_states → SpellsStep alphabet states p a q line
+    → SpellsStep alphabet states x b y line
     → (p ≡ x) × (a ≡ b) × (q ≡ y)
 one_step alphabet states p a q x b y line is few h k =
     let e : decimal p ∷ (slice_index alphabet a ∷ []) ∷ decimal q ∷ [] ≡ decimal x ∷
@@ -429,4 +432,5 @@ one_spelled alphabet states initial final steps m n is few h k =
     ∙ h.states) (k.automaton.finals ∙ k.states) h.finals k.finals)
     (h.listed.once
     ∙ ap (each_once [])
-    (same_steps alphabet states steps h.listed.spelled k.listed.spelled is few h.listed.each k.listed.each) ∙ sym k.listed.once)
+    (same_steps alphabet states steps h.listed.spelled k.listed.spelled is few h.listed.each
+    k.listed.each) ∙ sym k.listed.once)

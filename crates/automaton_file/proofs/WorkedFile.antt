@@ -21,11 +21,17 @@ worked_reads = (refl, (refl, refl))
 pub worked_is_source : IsSource worked_text worked_source
 worked_is_source =
     let size : length worked_text ≤ most_bytes = omega arith in
-    read_is_source worked_text worked_source (record { short = size; spelled = well_spelled (text_lines worked_text) worked_passes; same = worked_reads })
+    read_is_source worked_text worked_source
+    (record {
+      short = size;
+      spelled = well_spelled (text_lines worked_text) worked_passes;
+      same = worked_reads;
+    })
 
 refused_fails : first_fault [] 1 (text_lines refused_text) ≡ Some (5, State)
 unfolding text_lines fields number_below
 refused_fails = refl
 
 pub refused_is_refused : IsRefusal refused_text 5 5
-refused_is_refused = let size : length refused_text ≤ most_bytes = omega arith in fault_refusal refused_text 5 5 State size refused_fails refl
+refused_is_refused = let size : length refused_text ≤ most_bytes = omega arith in
+    fault_refusal refused_text 5 5 State size refused_fails refl

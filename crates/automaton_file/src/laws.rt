@@ -17,7 +17,8 @@ pub fn each_line_is_its_part()
     ensures alphabet { (line : List ℕ) → alphabet_fault (fields line) ≡ None
         ↔ ((alphabet : List ℕ) × SpellsAlphabet alphabet line) }
     ensures body { (alphabet line : List ℕ) → body_fault alphabet line ≡ None
-        ↔ (((states : ℕ) × SpellsCount states line) ⊎ ((t : Tree) × SpellsExpression alphabet t line)) }
+        ↔ (((states : ℕ) × SpellsCount states line)
+        ⊎ ((t : Tree) × SpellsExpression alphabet t line)) }
     ensures states { (word line : List ℕ) (states : ℕ) → states ≤ most_states
         → marks_fault word states (fields line) ≡ None ↔ IsStatesLine word states line }
     ensures step { (alphabet line : List ℕ) (states : ℕ) → IsAlphabet alphabet

@@ -32,7 +32,8 @@ module _ (g : Graph) (a : ℕ) where
 
   pub chain_next : (t rest next : ℕ) (heads nexts old into more : List ℕ)
       → IsInverse g a g.size heads nexts → IsChain t rest old into → 0 < rest
-      → next ≡ slice_index nexts (rest - 1) → more ≡ into ++ (rest - 1) ∷ [] → IsChain t next old more
+      → next ≡ slice_index nexts (rest - 1) → more ≡ into ++ (rest - 1) ∷ []
+      → IsChain t next old more
   chain_next t rest next heads nexts old into more r c pos e f =
       let leads : target g (rest - 1) a ≡ t = c.greatest.sound (rest - 1) (omega arith) in
       let below : rest - 1 < g.size = omega (arith, c.most) in

@@ -10,7 +10,8 @@ use Rattle.exploration.specs.Splitting.{Respects, IsClosed, AreSources, AreMembe
 
 -- what leads into a closed list is closed
 pub sources_closed : (g : Graph) (marks : List Bool) (a : ℕ) (nodes sources : List ℕ) → IsGraph g
-    → a < g.letters → IsClosed g marks nodes → AreSources g a nodes sources → IsClosed g marks sources
+    → a < g.letters → IsClosed g marks nodes → AreSources g a nodes sources
+    → IsClosed g marks sources
 sources_closed g marks a nodes sources graph ha h s = record {
   closed = λ i j hi hj same k.
       let p = (s.exact i).0 k in
@@ -59,7 +60,8 @@ moved_next size goals nodes old now new n x c m l e f here others =
     rw (take_more nodes n 0 l) (record { each = λ i hi. by i (equal_or_not i x) (m.each i hi) })
   where
     by : (i : ℕ) → (i ≡ x) ⊎ ¬ (i ≡ x) → Contains (take n nodes) i
-        × (slice_index now i ≡ slice_index goals (slice_index old i)) ⊎ (¬ Contains (take n nodes) i)
+        × (slice_index now i ≡ slice_index goals (slice_index old i))
+        ⊎ (¬ Contains (take n nodes) i)
         × (slice_index now i ≡ slice_index old i)
         → Contains (take n nodes ++ slice_index nodes n ∷ []) i
         × (slice_index new i ≡ slice_index goals (slice_index old i))

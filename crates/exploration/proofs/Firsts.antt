@@ -93,9 +93,11 @@ pub record AreTargetsOf (g : Graph) (count : ℕ) (classes firsts : List ℕ) (n
       ≡ slice_index classes (target g (slice_index firsts c) a)
 
 pub targets_next : (g : Graph) (count : ℕ) (classes firsts : List ℕ) (n : ℕ) (targets more : List ℕ)
-    → IsGraph g → IsPartition g count classes → AreFirstNodes count classes firsts → n < length firsts
+    → IsGraph g → IsPartition g count classes → AreFirstNodes count classes firsts
+    → n < length firsts
     → more ≡ targets ++ target_classes g classes (slice_index firsts n) g.letters
-    → AreTargetsOf g count classes firsts n targets → AreTargetsOf g count classes firsts (n + 1) more
+    → AreTargetsOf g count classes firsts n targets
+    → AreTargetsOf g count classes firsts (n + 1) more
 targets_next g count classes firsts n targets more graph partition fs hn e h = rw e (record {
   long = omega (arith, length-append targets row, h.long, long);
   within = All-append (λ t. t < count) targets row h.within

@@ -96,7 +96,8 @@ module _ (g : Graph) (marks : List Bool) (graph : IsGraph g) where
   }
     where
       looks : (i j : ℕ) → i < g.size → j < g.size
-          → slice_index new.classes i ≡ slice_index new.classes j → LooksAlike g marks new.classes i j
+          → slice_index new.classes i ≡ slice_index new.classes j
+          → LooksAlike g marks new.classes i j
       looks i j hi hj same = subst (λ (c : List ℕ). LooksAlike g marks c i j) (sym e)
           (looks_from_signature g marks old.classes i j ((s.split i j hi hj).0 same))
 

@@ -27,7 +27,8 @@ module _ (k : ℕ) (same later : List ℕ → List ℕ → Type 0) (old new : Li
   next_again : (words : List (List ℕ)) (targets : List ℕ) (p a n : ℕ)
       → IsBreadthFirst k words targets → length words ≡ count → AreNodes k old words targets
       → p < count → a < k → length targets ≡ p * k + a → IsNext k old new p a n
-      → (q b : ℕ) (w : List ℕ) → b < k → (q * k + b < length targets) ⊎ ((q ≡ p) × (b ≡ a)) → Over k w
+      → (q b : ℕ) (w : List ℕ) → b < k → (q * k + b < length targets) ⊎ ((q ≡ p) × (b ≡ a))
+      → Over k w
       → new w ≡ Some q → new (w ++ b ∷ []) ≡ Some (slice_index (targets ++ n ∷ []) (q * k + b))
   next_again words targets p a n f long h hp ha e next q b w hb (inl l) o given =
       let hq : q < length words = row_within q b k (length words) (omega (arith, l, f.handled)) in

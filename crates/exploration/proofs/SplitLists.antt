@@ -34,7 +34,8 @@ listed_put size node class classes list members h hn hc e =
             (subst (λ (k : ℕ). Contains (word_at members class ++ node ∷ []) k) (sym s)
             (Contains-push (word_at members class) node)))
         | inr n ↦ rw (get_or-set_other classes node i class 0 n)
-            (other i (slice_index classes i) (h.at i hi) (equal_or_not (slice_index classes i) class))
+            (other i (slice_index classes i) (h.at i hi)
+            (equal_or_not (slice_index classes i) class))
       ];
     }
   where
@@ -81,7 +82,8 @@ listed_new size classes all members zeros long each e =
     each' i hi = get_or_default all i i 0 (omega (arith, long)) ∙ each i hi
 
 pub picked_in : (size class n x : ℕ) (classes nodes picked more : List ℕ)
-    → ArePicked size classes class (take n nodes) picked → n < length nodes → x ≡ slice_index nodes n
+    → ArePicked size classes class (take n nodes) picked → n < length nodes
+    → x ≡ slice_index nodes n
     → x < size → slice_index classes x ≡ class → more ≡ picked ++ x ∷ []
     → ArePicked size classes class (take (n + 1) nodes) more
 picked_in size class n x classes nodes picked more h l e hx here f =
@@ -99,13 +101,15 @@ picked_in size class n x classes nodes picked more h l e hx here f =
         ],
         λ p. elim (Contains-push_cases (take n nodes) (slice_index nodes n) i p.0) [
           | inl o ↦ Contains-append_left picked (x ∷ []) i ((h.exact i).1 (o, p.1))
-          | inr o ↦ subst (λ (j : ℕ). Contains (picked ++ x ∷ []) j) (e ∙ o) (Contains-push picked x)
+          | inr o ↦ subst (λ (j : ℕ). Contains (picked ++ x ∷ []) j) (e ∙ o)
+              (Contains-push picked x)
         ],
       );
     })
 
 pub picked_out : (size class n x : ℕ) (classes nodes picked more : List ℕ)
-    → ArePicked size classes class (take n nodes) picked → n < length nodes → x ≡ slice_index nodes n
+    → ArePicked size classes class (take n nodes) picked → n < length nodes
+    → x ≡ slice_index nodes n
     → ¬ (slice_index classes x ≡ class) → more ≡ picked
     → ArePicked size classes class (take (n + 1) nodes) more
 picked_out size class n x classes nodes picked more h l e other f =
@@ -159,7 +163,8 @@ marked_out marks n marked more h e f =
       exact = λ i. (
         λ k. let p = (h.exact i).0 k in (omega (arith, p.0), p.1),
         λ p. elim (equal_or_not n i) [
-          | inl s ↦ (let no : is_marked marks i ≡ false = ap (λ (j : ℕ). is_marked marks j) (sym s) ∙ e in
+          | inl s ↦ (let no : is_marked marks i ≡ false = ap (λ (j : ℕ). is_marked marks j) (sym s)
+              ∙ e in
               absurd (cc (no, p.1)))
           | inr s ↦ (h.exact i).1 (lower i p.0 s, p.1)
         ],

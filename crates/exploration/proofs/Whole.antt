@@ -154,7 +154,8 @@ search_is_whole k l same later number count size letters targets g is e f machin
 
 -- there are not more classes than nodes
 pub not_more_than_nodes : (k : ℕ) (same : List ℕ → List ℕ → Type 0) (number : List ℕ → Option ℕ)
-    (g : Graph) (limit : ℕ) → IsWhole k same number g → g.size ≤ limit → ¬ HasMoreClasses k same limit
+    (g : Graph) (limit : ℕ) → IsWhole k same number g → g.size ≤ limit
+    → ¬ HasMoreClasses k same limit
 not_more_than_nodes k same number g limit h small (words, many, apart) =
     omega (arith, pigeonhole (length words) g.size (λ i. node g (word_at words i)) within other)
   where

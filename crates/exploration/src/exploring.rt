@@ -110,7 +110,8 @@ pub fn expand<S: States>(
     ensures later { S.is_later states.old states.new }
     ensures ready { OnOk result (S.is_ready states.new targets.new.items) }
     ensures explored { OnOk result (HasExplored (S.letters_of states.old) (S.number states.new)
-        (S.count states.old) (S.count states.new) limit ((node + 1) * S.letters_of states.old) targets.new.items) }
+        (S.count states.old) (S.count states.new) limit ((node + 1) * S.letters_of states.old)
+        targets.new.items) }
     ensures many { IsErrOf result ExploreFault.Limit
         → HasMoreClasses (S.letters_of states.old) (S.same states.old) limit }
 {

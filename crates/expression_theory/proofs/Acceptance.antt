@@ -9,13 +9,18 @@ use Rattle.expression_theory.proofs.Runs.{RunsFrom, positions_accept}
 -- a step leads to a position of the expression
 pub steps_below : (t : Tree) (p q : ℕ) → StepsTo t p q → q < 1 + length (positions t)
 steps_below t zero q (w, h) = (between 1 t q [] w h).1
-steps_below t (suc p) q (u, v, h) = (between 1 t q (u ++ suc p ∷ []) v (subst (PositionWord t) (sym (append_assoc u (suc p ∷ []) (q ∷ v))) h)).1
+steps_below t (suc p) q (u, v, h) =
+    (between 1 t q (u ++ suc p ∷ []) v
+    (subst (PositionWord t) (sym (append_assoc u (suc p ∷ []) (q ∷ v))) h)).1
 
-runs_of : (t : Tree) (k : ℕ) (m : Automaton) → IsPositions t k m → (w : List ℕ) (p : ℕ) → AcceptsFrom m w p → RunsFrom t w p
+runs_of : (t : Tree) (k : ℕ) (m : Automaton) → IsPositions t k m → (w : List ℕ) (p : ℕ)
+    → AcceptsFrom m w p → RunsFrom t w p
 runs_of t k m h [] p f = (h.final p).0 f
-runs_of t k m h (a ∷ w) p (q, (b, s), f) = let l = (h.step p a q).0 s in (q, l.0, l.1, runs_of t k m h w q f)
+runs_of t k m h (a ∷ w) p (q, (b, s), f) = let l = (h.step p a q).0 s in
+    (q, l.0, l.1, runs_of t k m h w q f)
 
-of_runs : (t : Tree) (k : ℕ) (m : Automaton) → IsPositions t k m → (w : List ℕ) (p : ℕ) → RunsFrom t w p → AcceptsFrom m w p
+of_runs : (t : Tree) (k : ℕ) (m : Automaton) → IsPositions t k m → (w : List ℕ) (p : ℕ)
+    → RunsFrom t w p → AcceptsFrom m w p
 of_runs t k m h [] p f = (h.final p).1 f
 of_runs t k m h (a ∷ w) p (q, l, e, f) =
     let b = steps_below t p q l in
@@ -23,11 +28,14 @@ of_runs t k m h (a ∷ w) p (q, l, e, f) =
     (q, (omega arith, (h.step p a q).1 (l, e)), of_runs t k m h w q f)
 
 -- a position automaton accepts exactly the words of its expression
-pub accepts_words : (t : Tree) (k : ℕ) (m : Automaton) → IsPositions t k m → (w : List ℕ) → Accepts m w ↔ Means t w
+pub accepts_words : (t : Tree) (k : ℕ) (m : Automaton) → IsPositions t k m → (w : List ℕ)
+    → Accepts m w ↔ Means t w
 accepts_words t k m h w = (to, from)
   where
     to : Accepts m w → Means t w
-    to (p, (b, i), f) = (positions_accept t w).0 (subst (λ p. RunsFrom t w p) ((h.initial p).0 i) (runs_of t k m h w p f))
+    to (p, (b, i), f) = (positions_accept t w).0
+        (subst (λ p. RunsFrom t w p) ((h.initial p).0 i) (runs_of t k m h w p f))
 
     from : Means t w → Accepts m w
-    from e = let s = h.states in (0, (omega arith, (h.initial 0).1 refl), of_runs t k m h w 0 ((positions_accept t w).1 e))
+    from e = let s = h.states in
+        (0, (omega arith, (h.initial 0).1 refl), of_runs t k m h w 0 ((positions_accept t w).1 e))

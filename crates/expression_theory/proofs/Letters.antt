@@ -23,19 +23,24 @@ abbrev pub class_at : Option ℕ → Class
 class_at None = Unknown
 class_at (Some place) = Good (Operand (leaf.Letter place))
 
-class_searched : (letters : List ℕ) (byte : ℕ) → class_at (searched letters byte) ≡ letter_class letters byte
-class_searched letters byte = let place = position_or_len (λ a. a == byte) letters in by (nat_lt place (length letters)) place
+class_searched : (letters : List ℕ) (byte : ℕ)
+    → class_at (searched letters byte) ≡ letter_class letters byte
+class_searched letters byte = let place = position_or_len (λ a. a == byte) letters in
+    by (nat_lt place (length letters)) place
   where
-    by : (b : Bool) (place : ℕ) → class_at (cond b (Some place) None) ≡ cond b (Good (Operand (leaf.Letter place))) Unknown
+    by : (b : Bool) (place : ℕ)
+        → class_at (cond b (Some place) None) ≡ cond b (Good (Operand (leaf.Letter place))) Unknown
     by true place = refl
     by false place = refl
 
 -- a letter that was found
-pub found_class : (letters : List ℕ) (byte place : ℕ) → searched letters byte ≡ Some place → Good (Operand (leaf.Letter place)) ≡ letter_class letters byte
+pub found_class : (letters : List ℕ) (byte place : ℕ) → searched letters byte ≡ Some place
+    → Good (Operand (leaf.Letter place)) ≡ letter_class letters byte
 found_class letters byte place e = sym (ap class_at e) ∙ class_searched letters byte
 
 -- a letter that was not found
-pub lost_class : (letters : List ℕ) (byte : ℕ) → searched letters byte ≡ None → Unknown ≡ letter_class letters byte
+pub lost_class : (letters : List ℕ) (byte : ℕ) → searched letters byte ≡ None
+    → Unknown ≡ letter_class letters byte
 lost_class letters byte e = sym (ap class_at e) ∙ class_searched letters byte
 
 -- the letters among the signs
@@ -66,22 +71,27 @@ applied_positions quantifier.Opt t = refl
 
 letters_spelt : (l : Level) (w : List Sign) (t : Tree) → Spells l w t → positions t ≡ symbols w
 letters_spelt l w t (operand {x = x}) = leaf_positions x
-letters_spelt l w t (inside {w = v} {t = x} h) = letters_spelt Union v x h ∙ sym (append-nil (symbols v)) ∙ sym (symbols_append v (Close ∷ []))
+letters_spelt l w t (inside {w = v} {t = x} h) = letters_spelt Union v x h
+    ∙ sym (append-nil (symbols v)) ∙ sym (symbols_append v (Close ∷ []))
 letters_spelt l w t (atom {w = v} {t = x} h) = letters_spelt Atom v x h
 letters_spelt l w t (postfix {w = v} {t = x} m h) =
-    applied_positions m x ∙ letters_spelt Piece v x h ∙ sym (append-nil (symbols v)) ∙ sym (symbols_append v (Postfix m ∷ []))
+    applied_positions m x ∙ letters_spelt Piece v x h ∙ sym (append-nil (symbols v))
+    ∙ sym (symbols_append v (Postfix m ∷ []))
 letters_spelt l w t (one_piece {w = v} {t = x} h) = letters_spelt Piece v x h
 letters_spelt l w t (next_piece {u = u} {v = v} {s = x} {t = y} h k) =
-    ap (λ r. r ++ positions y) (letters_spelt Sequence u x h) ∙ ap (λ r. symbols u ++ r) (letters_spelt Piece v y k) ∙ sym (symbols_append u v)
+    ap (λ r. r ++ positions y) (letters_spelt Sequence u x h)
+    ∙ ap (λ r. symbols u ++ r) (letters_spelt Piece v y k) ∙ sym (symbols_append u v)
 letters_spelt l w t (one_sequence {w = v} {t = x} h) = letters_spelt Sequence v x h
 letters_spelt l w t (next_sequence {u = u} {v = v} {s = x} {t = y} h k) =
-    ap (λ r. r ++ positions y) (letters_spelt Union u x h) ∙ ap (λ r. symbols u ++ r) (letters_spelt Sequence v y k) ∙ sym (symbols_append u (Bar ∷ v))
+    ap (λ r. r ++ positions y) (letters_spelt Union u x h)
+    ∙ ap (λ r. symbols u ++ r) (letters_spelt Sequence v y k) ∙ sym (symbols_append u (Bar ∷ v))
 
 -- the letters of a class
 abbrev pub letters_in : Class → List ℕ
 letters_in c = symbols (signs_in (c ∷ []))
 
-either_class : (P : List ℕ → Type 0) (b : Bool) (c d : Class) → (b ≡ true → P (letters_in c)) → P (letters_in d) → P (letters_in (cond b c d))
+either_class : (P : List ℕ → Type 0) (b : Bool) (c d : Class) → (b ≡ true → P (letters_in c))
+    → P (letters_in d) → P (letters_in (cond b c d))
 either_class P true c d h k = h refl
 either_class P false c d h k = k
 
@@ -97,26 +107,38 @@ sign_letters byte =
     (no (byte == 40) (Good Open) _ refl
     (no (byte == 41) (Good Close) _ refl refl))))))))
   where
-    no : (b : Bool) (c d : Class) → letters_in c ≡ [] → letters_in d ≡ [] → letters_in (cond b c d) ≡ []
+    no : (b : Bool) (c d : Class) → letters_in c ≡ [] → letters_in d ≡ []
+        → letters_in (cond b c d) ≡ []
     no b c d h k = either_class (λ w. w ≡ []) b c d (λ e. h) k
 
-class_letters : (letters : List ℕ) (byte : ℕ) → All (λ a. a < length letters) (letters_in (class_of letters byte))
+class_letters : (letters : List ℕ) (byte : ℕ)
+    → All (λ a. a < length letters) (letters_in (class_of letters byte))
 class_letters letters byte =
     let place = position_or_len (λ a. a == byte) letters in
     let none = All-nil (λ a. a < length letters) in
-    either_class (All (λ a. a < length letters)) (is_lower_case byte) (letter_class letters byte) (sign_class byte)
-    (λ e. either_class (All (λ a. a < length letters)) (nat_lt place (length letters)) (Good (Operand (leaf.Letter place))) Unknown
-    (λ f. All-cons (λ a. a < length letters) place [] ((Decides-ltb place (length letters)).0 f) none) none)
+    either_class (All (λ a. a < length letters)) (is_lower_case byte) (letter_class letters byte)
+    (sign_class byte)
+    (λ e. either_class (All (λ a. a < length letters)) (nat_lt place (length letters))
+    (Good (Operand (leaf.Letter place))) Unknown
+    (λ f. All-cons (λ a. a < length letters) place [] ((Decides-ltb place (length letters)).0 f)
+    none) none)
     (subst (All (λ a. a < length letters)) (sym (sign_letters byte)) none)
 
-text_letters : (letters text : List ℕ) → All (λ a. a < length letters) (symbols (signs_in (classes letters text)))
+text_letters : (letters text : List ℕ)
+    → All (λ a. a < length letters) (symbols (signs_in (classes letters text)))
 text_letters letters [] = All-nil (λ a. a < length letters)
 text_letters letters (byte ∷ text) =
     let c = class_of letters byte in
-    subst (All (λ a. a < length letters)) (sym (ap symbols (signs_append (c ∷ []) (classes letters text)) ∙ symbols_append (signs_in (c ∷ [])) (signs_in (classes letters text))))
-    (All-append (λ a. a < length letters) (letters_in c) (symbols (signs_in (classes letters text))) (class_letters letters byte) (text_letters letters text))
+    subst (All (λ a. a < length letters))
+    (sym (ap symbols (signs_append (c ∷ []) (classes letters text))
+    ∙ symbols_append (signs_in (c ∷ [])) (signs_in (classes letters text))))
+    (All-append (λ a. a < length letters) (letters_in c) (symbols (signs_in (classes letters text)))
+    (class_letters letters byte) (text_letters letters text))
 
 -- the letters of a tree that a text spells are below the number of letters
-pub spelt_letters : (letters text : List ℕ) (t : Tree) → Spells Union (signs_in (classes letters text)) t → All (λ a. a < length letters) (positions t)
+pub spelt_letters : (letters text : List ℕ) (t : Tree)
+    → Spells Union (signs_in (classes letters text)) t → All (λ a. a < length letters) (positions t)
 spelt_letters letters text t h =
-    subst (All (λ a. a < length letters)) (sym (letters_spelt Union (signs_in (classes letters text)) t h)) (text_letters letters text)
+    subst (All (λ a. a < length letters))
+    (sym (letters_spelt Union (signs_in (classes letters text)) t h))
+    (text_letters letters text)

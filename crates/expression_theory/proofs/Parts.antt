@@ -14,10 +14,12 @@ nil_parts [] v e = (refl, e)
 nil_parts (a ∷ u) v e = cc
 
 -- a word of the star that is not empty has a first piece
-pub once : (L : List ℕ → Type 0) (p : ℕ) (u v : List ℕ) → KleeneStar L (u ++ p ∷ v) → Concatenation L (KleeneStar L) (u ++ p ∷ v)
+pub once : (L : List ℕ → Type 0) (p : ℕ) (u v : List ℕ) → KleeneStar L (u ++ p ∷ v)
+    → Concatenation L (KleeneStar L) (u ++ p ∷ v)
 once L p u v s = by (once_or_none L (u ++ p ∷ v) s)
   where
-    by : (u ++ p ∷ v ≡ []) ⊎ Concatenation L (KleeneStar L) (u ++ p ∷ v) → Concatenation L (KleeneStar L) (u ++ p ∷ v)
+    by : (u ++ p ∷ v ≡ []) ⊎ Concatenation L (KleeneStar L) (u ++ p ∷ v)
+        → Concatenation L (KleeneStar L) (u ++ p ∷ v)
     by (inl e) = absurd (not_empty p u v e)
     by (inr j) = j
 
@@ -38,12 +40,15 @@ abbrev pub BeginsConcatenation : (L M : List ℕ → Type 0) → ℕ → Type 0
 BeginsConcatenation L M p = (Some L × Some M) × (Begins L p ⊎ (L [] × Begins M p))
 
 -- what begins a concatenation
-pub begins_joined : (L M : List ℕ → Type 0) (p : ℕ) → Begins (Concatenation L M) p → BeginsConcatenation L M p
+pub begins_joined : (L M : List ℕ → Type 0) (p : ℕ) → Begins (Concatenation L M) p
+    → BeginsConcatenation L M p
 begins_joined L M p (w, ([], v, h, k, e)) = ((([], h), (v, k)), inr (h, (w, subst M e k)))
-begins_joined L M p (w, (a ∷ u, v, h, k, e)) = (((a ∷ u, h), (v, k)), inl (u, subst (λ b. L (b ∷ u)) (let f : a ≡ p = cc in f) h))
+begins_joined L M p (w, (a ∷ u, v, h, k, e)) =
+    (((a ∷ u, h), (v, k)), inl (u, subst (λ b. L (b ∷ u)) (let f : a ≡ p = cc in f) h))
 
 -- and back
-pub joined_begins : (L M : List ℕ → Type 0) (p : ℕ) → BeginsConcatenation L M p → Begins (Concatenation L M) p
+pub joined_begins : (L M : List ℕ → Type 0) (p : ℕ) → BeginsConcatenation L M p
+    → Begins (Concatenation L M) p
 joined_begins L M p ((x, (y, k)), inl (w, h)) = (w ++ y, (p ∷ w, y, h, k, refl))
 joined_begins L M p (some, inr (h, (w, k))) = (w, ([], p ∷ w, h, k, refl))
 
@@ -63,7 +68,8 @@ abbrev pub EndsConcatenation : (L M : List ℕ → Type 0) → ℕ → Type 0
 EndsConcatenation L M p = (Some L × Some M) × ((M [] × Ends L p) ⊎ Ends M p)
 
 -- what ends a concatenation
-pub ends_joined : (L M : List ℕ → Type 0) (p : ℕ) → Ends (Concatenation L M) p → EndsConcatenation L M p
+pub ends_joined : (L M : List ℕ → Type 0) (p : ℕ) → Ends (Concatenation L M) p
+    → EndsConcatenation L M p
 ends_joined L M p (u, (x, y, h, k, e)) = by (cut p x y u [] e)
   where
     by : Cut p x y u [] → EndsConcatenation L M p
@@ -73,9 +79,11 @@ ends_joined L M p (u, (x, y, h, k, e)) = by (cut p x y u [] e)
     by (inr (z, f, g)) = (((x, h), (y, k)), inr (z, subst M f k))
 
 -- and back
-pub joined_ends : (L M : List ℕ → Type 0) (p : ℕ) → EndsConcatenation L M p → Ends (Concatenation L M) p
+pub joined_ends : (L M : List ℕ → Type 0) (p : ℕ) → EndsConcatenation L M p
+    → Ends (Concatenation L M) p
 joined_ends L M p (some, inl (k, (u, h))) = (u, (u ++ p ∷ [], [], h, k, append-nil (u ++ p ∷ [])))
-joined_ends L M p (((x, h), y), inr (u, k)) = (x ++ u, (x, u ++ p ∷ [], h, k, sym (append_assoc x u (p ∷ []))))
+joined_ends L M p (((x, h), y), inr (u, k)) =
+    (x ++ u, (x, u ++ p ∷ [], h, k, sym (append_assoc x u (p ∷ []))))
 
 -- what ends a word of the star ends a piece
 pub ends_star : (L : List ℕ → Type 0) (p : ℕ) → Ends (KleeneStar L) p → Ends L p
@@ -90,22 +98,29 @@ star_ends L p (u, h) = (u, single L (u ++ p ∷ []) h)
 
 -- following
 abbrev pub FollowsConcatenation : (L M : List ℕ → Type 0) → (p q : ℕ) → Type 0
-FollowsConcatenation L M p q = (Some L × Some M) × ((Follows L p q ⊎ Follows M p q) ⊎ (Ends L p × Begins M q))
+FollowsConcatenation L M p q = (Some L × Some M)
+    × ((Follows L p q ⊎ Follows M p q) ⊎ (Ends L p × Begins M q))
 
 -- what follows in a concatenation: inside of a part, or across
-pub follows_joined : (L M : List ℕ → Type 0) (p q : ℕ) → Follows (Concatenation L M) p q → FollowsConcatenation L M p q
+pub follows_joined : (L M : List ℕ → Type 0) (p q : ℕ) → Follows (Concatenation L M) p q
+    → FollowsConcatenation L M p q
 follows_joined L M p q (u, v, (x, y, h, k, e)) = (((x, h), (y, k)), by (cut p x y u (q ∷ v) e))
   where
     by : Cut p x y u (q ∷ v) → (Follows L p q ⊎ Follows M p q) ⊎ (Ends L p × Begins M q)
     by (inl ([], f, g)) = inr ((u, subst L f h), (v, subst M g k))
-    by (inl (c ∷ z, f, g)) = inl (inl (u, z, subst (λ c. L (u ++ p ∷ (c ∷ z))) (let i : c ≡ q = cc in i) (subst L f h)))
+    by (inl (c ∷ z, f, g)) =
+        inl (inl (u, z, subst (λ c. L (u ++ p ∷ (c ∷ z))) (let i : c ≡ q = cc in i) (subst L f h)))
     by (inr (z, f, g)) = inl (inr (z, v, subst M f k))
 
 -- and back
-pub joined_follows : (L M : List ℕ → Type 0) (p q : ℕ) → FollowsConcatenation L M p q → Follows (Concatenation L M) p q
-joined_follows L M p q ((x, (y, k)), inl (inl (u, v, h))) = (u, v ++ y, (u ++ p ∷ (q ∷ v), y, h, k, append_assoc u (p ∷ (q ∷ v)) y))
-joined_follows L M p q (((x, h), y), inl (inr (u, v, k))) = (x ++ u, v, (x, u ++ p ∷ (q ∷ v), h, k, sym (append_assoc x u (p ∷ (q ∷ v)))))
-joined_follows L M p q (some, inr ((u, h), (v, k))) = (u, v, (u ++ p ∷ [], q ∷ v, h, k, append_assoc u (p ∷ []) (q ∷ v)))
+pub joined_follows : (L M : List ℕ → Type 0) (p q : ℕ) → FollowsConcatenation L M p q
+    → Follows (Concatenation L M) p q
+joined_follows L M p q ((x, (y, k)), inl (inl (u, v, h))) =
+    (u, v ++ y, (u ++ p ∷ (q ∷ v), y, h, k, append_assoc u (p ∷ (q ∷ v)) y))
+joined_follows L M p q (((x, h), y), inl (inr (u, v, k))) =
+    (x ++ u, v, (x, u ++ p ∷ (q ∷ v), h, k, sym (append_assoc x u (p ∷ (q ∷ v)))))
+joined_follows L M p q (some, inr ((u, h), (v, k))) =
+    (u, v, (u ++ p ∷ [], q ∷ v, h, k, append_assoc u (p ∷ []) (q ∷ v)))
 
 -- inside of a piece, or across two
 abbrev pub FollowsStar : (L : List ℕ → Type 0) → (p q : ℕ) → Type 0
@@ -117,10 +132,15 @@ follows_star L p q (u, v, s) = by (within_piece L p (u ++ p ∷ (q ∷ v)) u (q 
   where
     by : Within L p u (q ∷ v) → FollowsStar L p q
     by (b, x, [], a, sb, l, sa, e, f) = inr ((x, l), first_piece L q v (subst (KleeneStar L) f sa))
-    by (b, x, c ∷ y, a, sb, l, sa, e, f) = inl (x, y, subst (λ c. L (x ++ p ∷ (c ∷ y))) (let i : c ≡ q = cc in i) l)
+    by (b, x, c ∷ y, a, sb, l, sa, e, f) =
+        inl (x, y, subst (λ c. L (x ++ p ∷ (c ∷ y))) (let i : c ≡ q = cc in i) l)
 
 -- and back
 pub star_follows : (L : List ℕ → Type 0) (p q : ℕ) → FollowsStar L p q → Follows (KleeneStar L) p q
 star_follows L p q (inl (u, v, h)) = (u, v, single L (u ++ p ∷ (q ∷ v)) h)
-star_follows L p q (inr ((u, h), (v, k))) =
-    (u, v, subst (KleeneStar L) (append_assoc u (p ∷ []) (q ∷ v)) (more L (u ++ p ∷ []) (q ∷ v) h (single L (q ∷ v) k)))
+star_follows L p q (inr ((u, h), (v, k))) = (
+  u,
+  v,
+  subst (KleeneStar L) (append_assoc u (p ∷ []) (q ∷ v))
+      (more L (u ++ p ∷ []) (q ∷ v) h (single L (q ∷ v) k)),
+)

@@ -26,7 +26,11 @@ power_star zero = nothing
 power_star (suc n) = piece {u = 1 ∷ []} {v = power n (0 ∷ 1 ∷ [])} ab (power_star n)
 
 pub ab_star_words : (w : List ℕ) → Means (Star (Cat (Letter 0) (Letter 1))) w ↔ IsAbStar w
-ab_star_words w = (repeated w, λ (n, e). subst (Means (Star (Cat (Letter 0) (Letter 1)))) e (power_star n))
+ab_star_words w = (
+  repeated w,
+  λ (n, e). subst (Means (Star (Cat (Letter 0) (Letter 1)))) e
+      (power_star n),
+)
 
 pub a_once : Means (Plus (Letter 0)) (0 ∷ [])
 a_once = (0 ∷ [], [], refl, nothing, refl)

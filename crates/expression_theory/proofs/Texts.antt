@@ -9,12 +9,15 @@ use Rattle.expression_theory.proofs.Sound.{read_spells}
 use Rattle.expression_theory.proofs.Nodes.{nodes_counted}
 use Rattle.expression_theory.proofs.Accepted.{Clear, clear_from, accepted_spells}
 
-clear_visible : (cs : List Class) (d : Bool) (o n : ℕ) → Clear d o n cs → visible cs ≡ map Good (signs_in cs)
+clear_visible : (cs : List Class) (d : Bool) (o n : ℕ) → Clear d o n cs
+    → visible cs ≡ map Good (signs_in cs)
 clear_visible [] d o n h = refl
 clear_visible (Skipped ∷ cs) d o n (e, h) = clear_visible cs d o (n + 0) h
 clear_visible (Unknown ∷ cs) d o n (e, h) = absurd (let f : Some UnknownLetter ≡ None = e in cc)
 clear_visible (Strange ∷ cs) d o n (e, h) = absurd (let f : Some Unexpected ≡ None = e in cc)
-clear_visible (Good s ∷ cs) d o n (e, h) = ap (λ r. Good s ∷ r) (clear_visible cs (due_by d (Good s)) (depth_by o (Good s)) (n + cost d (Good s)) h)
+clear_visible (Good s ∷ cs) d o n (e, h) =
+    ap (λ r. Good s ∷ r)
+    (clear_visible cs (due_by d (Good s)) (depth_by o (Good s)) (n + cost d (Good s)) h)
 
 -- an accepted text has only signs, spaces and tabs
 pub accepted_visible : (cs : List Class) → IsAccepted cs → visible cs ≡ map Good (signs_in cs)
@@ -44,12 +47,15 @@ one_tree cs s t (w, e, h) (v, f, k) =
 
 -- an accepted text spells a tree
 pub accepted_tree : (cs : List Class) → IsAccepted cs → (t : Tree) × SpellsTree cs t
-accepted_tree cs h = let r = accepted_spells cs h in (r.0, (signs_in cs, accepted_visible cs h, r.1))
+accepted_tree cs h = let r = accepted_spells cs h in
+    (r.0, (signs_in cs, accepted_visible cs h, r.1))
 
 -- the tree that the frames of an accepted text read is the one that it spells
-pub read_tree : (cs : List Class) (t : Tree) → IsAccepted cs → tree_read (signs_in cs) ≡ Some t → SpellsTree cs t
+pub read_tree : (cs : List Class) (t : Tree) → IsAccepted cs → tree_read (signs_in cs) ≡ Some t
+    → SpellsTree cs t
 read_tree cs t h e = (signs_in cs, accepted_visible cs h, read_spells (signs_in cs) t e)
 
 -- the nodes that are counted in a text are those of the tree that it spells
 pub text_nodes : (cs : List Class) (t : Tree) → SpellsTree cs t → nodes_from true cs ≡ nodes t
-text_nodes cs t (w, e, h) = nodes_counted cs t (subst (λ w. Spells Union w t) (sym (visible_signs cs w e)) h)
+text_nodes cs t (w, e, h) =
+    nodes_counted cs t (subst (λ w. Spells Union w t) (sym (visible_signs cs w e)) h)

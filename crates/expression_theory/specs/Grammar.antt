@@ -8,7 +8,13 @@ use Rattle.expression_theory.specs.declared.signs.Quantifier.TheVariants as quan
 pub use Rattle.expression_theory.specs.declared.signs.Leaf.{Leaf}
 pub use Rattle.expression_theory.specs.declared.signs.Quantifier.{Quantifier}
 pub use Rattle.expression_theory.specs.declared.signs.Sign.{Sign}
-pub use Rattle.expression_theory.specs.declared.signs.Sign.TheVariants.{Operand, Bar, Postfix, Open, Close}
+pub use Rattle.expression_theory.specs.declared.signs.Sign.TheVariants.{
+  Operand,
+  Bar,
+  Postfix,
+  Open,
+  Close,
+}
 
 -- the tree of a leaf
 abbrev pub leaf_tree : Leaf → Tree

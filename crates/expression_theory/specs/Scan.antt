@@ -9,7 +9,12 @@ use Rattle.expression_theory.specs.declared.signs.Quantifier.TheVariants as quan
 -- what a byte is: a space or tab, a lower-case letter that is not of the alphabet, no sign, or a
 -- sign
 pub use Rattle.expression_theory.specs.declared.signs.Class.{Class}
-pub use Rattle.expression_theory.specs.declared.signs.Class.TheVariants.{Skipped, Unknown, Strange, Good}
+pub use Rattle.expression_theory.specs.declared.signs.Class.TheVariants.{
+  Skipped,
+  Unknown,
+  Strange,
+  Good,
+}
 
 -- the number of a letter is its place in the alphabet
 abbrev pub letter_class : List ℕ → ℕ → Class

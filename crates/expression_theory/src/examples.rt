@@ -104,7 +104,8 @@ pub fn a_dead_position_has_no_step()
         (Or (Cat (Letter 0) Zero) (Letter 1)) }
     ensures begins { ¬ Begins (PositionWord (Or (Cat (Letter 0) Zero) (Letter 1))) 1 }
     ensures follows { (p : ℕ) → ¬ Follows (PositionWord (Or (Cat (Letter 0) Zero) (Letter 1))) p 1 }
-    ensures followed { (q : ℕ) → ¬ Follows (PositionWord (Or (Cat (Letter 0) Zero) (Letter 1))) 1 q }
+    ensures followed { (q : ℕ)
+        → ¬ Follows (PositionWord (Or (Cat (Letter 0) Zero) (Letter 1))) 1 q }
     ensures ends { ¬ Ends (PositionWord (Or (Cat (Letter 0) Zero) (Letter 1))) 1 }
     ensures live_begins { Begins (PositionWord (Or (Cat (Letter 0) Zero) (Letter 1))) 2 }
     ensures live_ends { Ends (PositionWord (Or (Cat (Letter 0) Zero) (Letter 1))) 2 }

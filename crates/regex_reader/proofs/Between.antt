@@ -27,17 +27,24 @@ pub record IsBetween (cs : List Class) (i : ℕ) (r : Reader) : Type 0 where
   pub bounds : IsReader r
 
 -- one byte more
-pub between_more : (cs : List Class) (i : ℕ) (r next : Reader) (c : Class) → IsBetween cs i r → i < length cs → get_or cs i Strange ≡ c → HasRead r c next → IsBetween cs (i + 1) next
+pub between_more : (cs : List Class) (i : ℕ) (r next : Reader) (c : Class) → IsBetween cs i r
+    → i < length cs → get_or cs i Strange ≡ c → HasRead r c next → IsBetween cs (i + 1) next
 between_more cs i r next c h b e k =
-    let g : take (i + 1) cs ≡ take i cs ++ c ∷ [] = take_more cs i Strange b ∙ ap (λ c. take i cs ++ c ∷ []) e in
-    let more = scanned_more cs i (is_due r.piece) (length r.waiting.items) r.nodes c h.scanned b e k.clear in
+    let g : take (i + 1) cs ≡ take i cs ++ c ∷ [] = take_more cs i Strange b
+    ∙ ap (λ c. take i cs ++ c ∷ []) e in
+    let more = scanned_more cs i (is_due r.piece) (length r.waiting.items) r.nodes c h.scanned b e
+    k.clear in
     let scanned : IsScanned cs (i + 1) (is_due next.piece) (length next.waiting.items) next.nodes =
-    subst (λ n. IsScanned cs (i + 1) (is_due next.piece) (length next.waiting.items) n) (sym k.nodes)
-    (subst (λ o. IsScanned cs (i + 1) (is_due next.piece) o (r.nodes + cost (is_due r.piece) c)) (sym k.depth)
-    (subst (λ d. IsScanned cs (i + 1) d (depth_by (length r.waiting.items) c) (r.nodes + cost (is_due r.piece) c)) (sym k.due) more)) in
+    subst (λ n. IsScanned cs (i + 1) (is_due next.piece) (length next.waiting.items) n)
+    (sym k.nodes)
+    (subst (λ o. IsScanned cs (i + 1) (is_due next.piece) o (r.nodes + cost (is_due r.piece) c))
+    (sym k.depth)
+    (subst (λ d. IsScanned cs (i + 1) d (depth_by (length r.waiting.items) c)
+    (r.nodes + cost (is_due r.piece) c)) (sym k.due) more)) in
     record {
       scanned = scanned;
-      read = ap (λ cs. frames.run frames.start (signs_in cs)) g ∙ run_more frames.start (frames_of r) (frames_of next) (take i cs) c h.read k.frames;
+      read = ap (λ cs. frames.run frames.start (signs_in cs)) g
+          ∙ run_more frames.start (frames_of r) (frames_of next) (take i cs) c h.read k.frames;
       bounds = record { depth = scanned.shallow; nodes = scanned.small };
     }
 
@@ -53,8 +60,10 @@ pub record IsDone (cs : List Class) (t : Tree) : Type 0 where
   pub small : nodes t ≤ most_nodes
 
 -- what is known at the end
-pub between_done : (cs : List Class) (i : ℕ) (r : Reader) (piece : Expr) (t : Tree) → IsBetween cs i r → i ≡ length cs → length r.waiting.items ≡ 0 → r.piece ≡ Some piece →
-    t ≡ frames.whole (tree_in r.top.alternatives) (tree_in r.top.sequence) (tree_of piece) → IsDone cs t
+pub between_done : (cs : List Class) (i : ℕ) (r : Reader) (piece : Expr) (t : Tree)
+    → IsBetween cs i r → i ≡ length cs → length r.waiting.items ≡ 0 → r.piece ≡ Some piece →
+    t ≡ frames.whole (tree_in r.top.alternatives) (tree_in r.top.sequence) (tree_of piece)
+    → IsDone cs t
 between_done cs i r piece t h e f g k =
     let due : is_due r.piece ≡ false = ap is_due g in
     let scanned : IsScanned cs (length cs) false 0 r.nodes =
@@ -63,17 +72,30 @@ between_done cs i r piece t h e f g k =
     (subst (λ i. IsScanned cs i (is_due r.piece) (length r.waiting.items) r.nodes) e h.scanned)) in
     let accepted : IsAccepted cs = scanned_all cs r.nodes scanned in
     let all : take (length cs) cs ≡ cs = take_all (length cs) cs (omega arith) in
-    let read : frames.run frames.start (signs_in cs) ≡ Some (frames.frame (tree_in r.top.alternatives) (tree_in r.top.sequence) (Some (tree_of piece)) ∷ []) =
-    ap (λ cs. frames.run frames.start (signs_in cs)) (sym all) ∙ ap (λ i. frames.run frames.start (signs_in (take i cs))) (sym e) ∙ h.read
+    let read : frames.run frames.start (signs_in cs) ≡ Some
+    (frames.frame (tree_in r.top.alternatives) (tree_in r.top.sequence)
+    (Some (tree_of piece)) ∷ []) =
+    ap (λ cs. frames.run frames.start (signs_in cs)) (sym all)
+    ∙ ap (λ i. frames.run frames.start (signs_in (take i cs))) (sym e) ∙ h.read
     ∙ ap (λ p. Some (frame_of p r.top ∷ map (frame_of None) (reverse r.waiting.items))) g
-    ∙ ap (λ ws. Some (frame_of (Some piece) r.top ∷ map (frame_of None) (reverse ws))) (none r.waiting.items f) in
-    let tree : frames.tree_read (signs_in cs) ≡ Some t = ap frames.finished read ∙ ap Some (sym k) in
+    ∙ ap (λ ws. Some (frame_of (Some piece) r.top ∷ map (frame_of None) (reverse ws)))
+    (none r.waiting.items f) in
+    let tree : frames.tree_read (signs_in cs) ≡ Some t = ap frames.finished read
+    ∙ ap Some (sym k) in
     let signs : Spells Union (signs_in cs) t = read_spells (signs_in cs) t tree in
     let count : nodes_from true cs ≡ nodes t = nodes_counted cs t signs in
     let seen : r.nodes ≡ nodes_from true cs = scanned.nodes ∙ ap (nodes_from true) all in
     let small : r.nodes ≤ most_nodes = scanned.small in
-    record { accepted = accepted; spells = read_tree cs t accepted tree; signs = signs; small = omega arith }
+    record {
+      accepted = accepted;
+      spells = read_tree cs t accepted tree;
+      signs = signs;
+      small =
+          omega arith;
+    }
 
 -- the tree of an accepted text has a position automaton
-pub done_within : (letters text : List ℕ) (t : Tree) → IsDone (classes letters text) t → IsWithin (length letters) t
-done_within letters text t h = record { small = h.small; letters = spelt_letters letters text t h.signs }
+pub done_within : (letters text : List ℕ) (t : Tree) → IsDone (classes letters text) t
+    → IsWithin (length letters) t
+done_within letters text t h =
+    record { small = h.small; letters = spelt_letters letters text t h.signs }

@@ -189,7 +189,8 @@ some_positions k t = (
           let below : q < 1 + length (positions t) = steps_below t p q s in
           subst (λ (b : ℕ). list_any (is_step p b q)
           (rows t (length (positions t) + 1) (length (positions t) + 1)) ≡ true) l
-          (in_rows t (length (positions t) + 1) (length (positions t) + 1) p q (steps_from_below t p q s)
+          (in_rows t (length (positions t) + 1) (length (positions t) + 1) p q
+          (steps_from_below t p q s)
           (omega arith) ((step_decides t p q).1 s)),
     );
   },

@@ -54,7 +54,8 @@ IsFollowing n ts table =
 
 -- the parts of the trees, the first one last, and the table of what follows what in them; their
 -- positions go up to the table's end
-pub record IsEvaluated (ts : List Tree) (n : ℕ) (parts : List Summary) (table : Table) : Type 0 where
+pub record IsEvaluated (ts : List Tree) (n : ℕ) (parts : List Summary)
+    (table : Table) : Type 0 where
   pub known : AreParts n ts (reverse parts)
   pub end : n + positions_among ts ≡ table.width
   pub marks : IsFollowing n ts table

@@ -121,7 +121,8 @@ fn optional(part: Part) -> Part
 fn read_star(parts: &mut Vec<Part>, marks: &mut Marks, position: u32) -> Result<(), Memory>
     requires { CanCombine 1 position parts.old.items marks.old }
     ensures combined { OnOk result
-        (HasCombined Node.Star position parts.old.items marks.old position parts.new.items marks.new) }
+        (HasCombined Node.Star position parts.old.items marks.old position parts.new.items
+        marks.new) }
     ensures width { marks.new.width ≡ marks.old.width }
 {
     let part = take_one(parts);
@@ -135,7 +136,8 @@ fn read_star(parts: &mut Vec<Part>, marks: &mut Marks, position: u32) -> Result<
 fn read_plus(parts: &mut Vec<Part>, marks: &mut Marks, position: u32) -> Result<(), Memory>
     requires { CanCombine 1 position parts.old.items marks.old }
     ensures combined { OnOk result
-        (HasCombined Node.Plus position parts.old.items marks.old position parts.new.items marks.new) }
+        (HasCombined Node.Plus position parts.old.items marks.old position parts.new.items
+        marks.new) }
     ensures width { marks.new.width ≡ marks.old.width }
 {
     let part = take_one(parts);

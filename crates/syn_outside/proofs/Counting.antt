@@ -19,7 +19,8 @@ pub one_below_le : (n m x : ℕ) → n ≤ m → cond (nat_lt x n) 1 0 ≤ cond 
 one_below_le n m x h = grind (arith, nat_tests)
 
 -- the bound itself counts below a greater bound alone
-pub one_below_more : (n m x : ℕ) → n < m → (x == n) ≡ true → cond (nat_lt x n) 1 0 + 1 ≤ cond (nat_lt x m) 1 0
+pub one_below_more : (n m x : ℕ) → n < m → (x == n) ≡ true
+    → cond (nat_lt x n) 1 0 + 1 ≤ cond (nat_lt x m) 1 0
 one_below_more n m x h e = grind (arith, nat_tests)
 
 -- no fewer numbers are below a greater bound
@@ -29,25 +30,35 @@ below_le n m (x ∷ xs) h =
     omega (arith, below-cons n x xs, below-cons m x xs, one_below_le n m x h, below_le n m xs h)
 
 -- either the first number is the one that was sought, or another is
-any_cases : (n x : ℕ) (xs : List ℕ) → list_any (λ k. k == n) (x ∷ xs) ≡ true → ((x == n) ≡ true) ⊎ (list_any (λ k. k == n) xs ≡ true)
+any_cases : (n x : ℕ) (xs : List ℕ) → list_any (λ k. k == n) (x ∷ xs) ≡ true → ((x == n) ≡ true)
+    ⊎ (list_any (λ k. k == n) xs ≡ true)
 any_cases n x xs h = grind arith
 
 -- more numbers are below a greater bound, where the bound itself is among them
-pub below_more : (n m : ℕ) (xs : List ℕ) → n < m → list_any (λ k. k == n) xs ≡ true → below n xs + 1 ≤ below m xs
+pub below_more : (n m : ℕ) (xs : List ℕ) → n < m → list_any (λ k. k == n) xs ≡ true
+    → below n xs + 1 ≤ below m xs
 below_more n m [] h any = cc
 below_more n m (x ∷ xs) h any =
     elim (any_cases n x xs any) [
       | inl here ↦ let rest : below n xs ≤ below m xs = below_le n m xs (omega arith) in
           omega (arith, below-cons n x xs, below-cons m x xs, one_below_more n m x h here, rest)
-      | inr there ↦ omega (arith, below-cons n x xs, below-cons m x xs, one_below_le n m x (omega arith), below_more n m xs h there)
+      | inr there ↦ omega (
+        arith,
+        below-cons n x xs,
+        below-cons m x xs,
+        one_below_le n m x (omega arith),
+        below_more n m xs h there,
+      )
     ]
 
 -- a number that is among numbers below a bound is below it
-pub any_within : (n m : ℕ) (xs : List ℕ) → All (λ k. k < m) xs → list_any (λ k. k == n) xs ≡ true → n < m
+pub any_within : (n m : ℕ) (xs : List ℕ) → All (λ k. k < m) xs → list_any (λ k. k == n) xs ≡ true
+    → n < m
 any_within n m [] all any = cc
 any_within n m (x ∷ xs) all any =
     elim (any_cases n x xs any) [
-      | inl here ↦ let first : x < m = All-head (λ k. k < m) x xs all in let same : x ≡ n = eqb-true x n here in omega arith
+      | inl here ↦ let first : x < m = All-head (λ k. k < m) x xs all in let same : x ≡ n =
+          eqb-true x n here in omega arith
       | inr there ↦ any_within n m xs (All-tail (λ k. k < m) x xs all) there
     ]
 

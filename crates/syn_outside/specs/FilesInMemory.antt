@@ -48,5 +48,6 @@ abbrev pub after_read : FilesInMemory → ℕ → FilesInMemory
 after_read device room =
     record device {
       calls = next device.calls;
-      started = if fails device.calls then device.started else option_map (λ left. drop (read_len device room) left) device.started;
+      started = if fails device.calls then device.started else option_map
+          (λ left. drop (read_len device room) left) device.started;
     }

@@ -19,4 +19,5 @@ Lacks (Some files) name = bytes_of name files ≡ None
 -- where the files are told, one has this name, and these are its first bytes, at most `most` of them
 abbrev pub HasPrefix : Option NamedFiles → List ℕ → ℕ → List ℕ → Type 0
 HasPrefix None name most bytes = ⊤
-HasPrefix (Some files) name most bytes = (file : List ℕ) × (bytes_of name files ≡ Some file) × (bytes ≡ take most file)
+HasPrefix (Some files) name most bytes = (file : List ℕ) × (bytes_of name files ≡ Some file)
+    × (bytes ≡ take most file)

@@ -23,11 +23,13 @@ is_full sink = length sink.written == sink.room
 
 -- how many bytes of a piece of this length a write takes
 abbrev pub write_len : SinkInMemory → ℕ → ℕ
-write_len sink n = if fails sink.calls then 0 else min sink.step (min n (sink.room - length sink.written))
+write_len sink n = if fails sink.calls then 0 else min sink.step
+    (min n (sink.room - length sink.written))
 
 -- a write fails where its number says so and where the room is full
 abbrev pub write_answer : SinkInMemory → ℕ → Put
-write_answer sink n = if fails sink.calls || is_full sink then put.Failed else put.Wrote (write_len sink n)
+write_answer sink n = if fails sink.calls || is_full sink then put.Failed else put.Wrote
+    (write_len sink n)
 
 -- a write takes the front of the piece, and is refused where the room is full and its number does not fail
 abbrev pub after_write : SinkInMemory → List ℕ → SinkInMemory
@@ -35,5 +37,6 @@ after_write sink piece =
     record sink {
       written = sink.written ++ take (write_len sink (length piece)) piece;
       calls = next sink.calls;
-      refused = if fails sink.calls || not (is_full sink) then sink.refused else one_more sink.refused;
+      refused = if fails sink.calls || not (is_full sink) then sink.refused else one_more
+          sink.refused;
     }

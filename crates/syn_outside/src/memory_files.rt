@@ -102,9 +102,11 @@ impl Files for MemFiles {
 
     fn start(&mut self, name: &str) -> Opened
         ensures files { self.new.files ≡ self.old.files }
-        ensures opened { Opens (Some self.old.files) name.now (Some (bytes_left self.new)) (is_some self.new.started) result }
+        ensures opened { Opens (Some self.old.files) name.now (Some (bytes_left self.new))
+            (is_some self.new.started) result }
         ensures count { failed self.old.calls ≤ failed self.new.calls }
-        ensures failed { result ≡ Opened.Failed → Rose (failed self.old.calls) (failed self.new.calls) }
+        ensures failed { result ≡ Opened.Failed
+            → Rose (failed self.old.calls) (failed self.new.calls) }
         ensures answer { result ≡ start_answer self.old name.now }
         ensures after { self.new ≡ after_start self.old name.now }
     {
@@ -125,9 +127,11 @@ impl Files for MemFiles {
         requires started { is_some self.old.started ≡ true }
         ensures files { self.new.files ≡ self.old.files }
         ensures started { is_some self.new.started ≡ true }
-        ensures got { Gives (Some (bytes_left self.old)) (Some (bytes_left self.new)) into.new result }
+        ensures got { Gives (Some (bytes_left self.old)) (Some (bytes_left self.new)) into.new
+            result }
         ensures count { failed self.old.calls ≤ failed self.new.calls }
-        ensures failed { result ≡ Got.Failed → Rose (failed self.old.calls) (failed self.new.calls) }
+        ensures failed { result ≡ Got.Failed
+            → Rose (failed self.old.calls) (failed self.new.calls) }
         ensures answer { result ≡ read_answer self.old (length into.old) }
         ensures after { self.new ≡ after_read self.old (length into.old) }
     {

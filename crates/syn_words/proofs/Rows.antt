@@ -33,7 +33,8 @@ targets_within m p a h = All-map (λ q. q < m.states) (λ (s : ℕ × ℕ × ℕ
 -- the row of the step that came
 row_here : (m : Automaton) (rows : List (List ℕ)) (p a q x b : ℕ) → AreTargets m rows → p < m.states
     → a < m.letters → (x ≡ p) × (b ≡ a) → get_or
-    (set rows (p * m.letters + a) (get_or rows (p * m.letters + a) [] ++ q ∷ [])) (x * m.letters + b)
+    (set rows (p * m.letters + a) (get_or rows (p * m.letters + a) [] ++ q ∷ []))
+    (x * m.letters + b)
     [] ≡ targets_among x b (m.steps ++ (p, a, q) ∷ [])
 row_here m rows p a q x b h hp ha (e, f) =
     let within : p * m.letters + a < length rows =

@@ -16,7 +16,15 @@ pub record IsSized (m : Automaton) : Type 0 where
 
 -- the automaton with no initial states, final states or steps
 abbrev pub bare : ℕ → ℕ → Automaton
-bare states letters = record { states = states; letters = letters; initial = replicate states false; finals = replicate states false; steps = [] }
+bare states letters =
+    record {
+      states = states;
+      letters = letters;
+      initial = replicate states false;
+      finals =
+          replicate states false;
+      steps = [];
+    }
 
 -- the automaton with p among its initial states too
 abbrev pub with_initial : Automaton → ℕ → Automaton
@@ -28,4 +36,7 @@ with_final m p = record m { finals = slice_set m.finals p true }
 
 -- the automaton with a step too, which comes last where it was not there
 abbrev pub with_step : Automaton → ℕ → ℕ → ℕ → Automaton
-with_step m p a q = record m { steps = if has_step m p a q then m.steps else m.steps ++ (p, a, q) ∷ [] }
+with_step m p a q = record m {
+  steps = if has_step m p a q then m.steps else m.steps
+      ++ (p, a, q) ∷ [];
+}

@@ -39,7 +39,8 @@ fn step_back(alloc: Global, steps: &[Step], letter: u8, marks: &[bool]) -> Resul
     requires from { All (λ s. s.0 < length marks.now) steps.now }
     requires to { All (λ s. s.2 < length marks.now) steps.now }
     ensures long { IfOk result (λ before. length before.items ≡ length marks.now) }
-    ensures marks { IfOk result (λ before. (p : ℕ) → p < length marks.now → is_marked before.items p ≡ list_any (leads_to p letter marks.now) steps.now) }
+    ensures marks { IfOk result (λ before. (p : ℕ) → p < length marks.now
+        → is_marked before.items p ≡ list_any (leads_to p letter marks.now) steps.now) }
 {
     let mut before = vec![in alloc; false; marks.len()]?;
     for &(from, by, to) in steps {

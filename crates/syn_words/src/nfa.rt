@@ -29,9 +29,23 @@ impl Model for Nfa {
 
     ghost Value = { Automaton };
 
-    ghost view = { λ n. record { states = length n.initial.items; letters = n.letters; initial = n.initial.items; finals = n.finals.items; steps = n.steps.keys } };
+    ghost view = { λ n. record {
+      states = length n.initial.items;
+      letters = n.letters;
+      initial =
+          n.initial.items;
+      finals = n.finals.items;
+      steps = n.steps.keys;
+    } };
 
-    ghost invariant = { λ n. IsSized (record { states = length n.initial.items; letters = n.letters; initial = n.initial.items; finals = n.finals.items; steps = n.steps.keys }) };
+    ghost invariant = { λ n. IsSized
+        (record {
+          states = length n.initial.items;
+          letters = n.letters;
+          initial = n.initial.items;
+          finals = n.finals.items;
+          steps = n.steps.keys;
+        }) };
 }
 
 impl Nfa {
@@ -107,7 +121,9 @@ impl Nfa {
         requires letter { letter < self.old.letters }
         requires to { to < self.old.states }
         ensures ok { OnOk result (self.new ≡ with_step self.old from letter to) }
-        ensures steps { OnOk result ((p a q : ℕ) → has_step self.new p a q ≡ (has_step self.old p a q || is_step p a q (from, letter, to))) }
+        ensures steps { OnOk result
+            ((p a q : ℕ) → has_step self.new p a q
+            ≡ (has_step self.old p a q || is_step p a q (from, letter, to))) }
         ensures err { OnErr result (self.new ≡ self.old) }
     {
         self.steps.insert((from, letter, to))?;

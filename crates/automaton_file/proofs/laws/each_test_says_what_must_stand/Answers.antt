@@ -10,7 +10,8 @@ returns c = record {
   lower = λ byte. (from_lower_case_test byte, lower_case_test byte);
   distinct = λ text. (from_distinct_test text, distinct_test text);
   alphabet = λ text. (from_alphabet_test text, alphabet_test text);
-  expression = λ alphabet text. (test_accepted (classes alphabet text), accepted_test (classes alphabet text));
+  expression = λ alphabet text.
+      (test_accepted (classes alphabet text), accepted_test (classes alphabet text));
   state = λ states field few. (state_of states field few, state_passes states field few);
   letter = λ alphabet field is. letter_test alphabet field is;
 }

@@ -4,7 +4,8 @@ use Rattle.automaton_file.proofs.lines.next_line.Given as goal
 
 abbrev pub invariant-lines : goal.invariant-lines
 invariant-lines l = record {
-  skip : IsSkip (text_lines (drop l.fn.place l.bytes)) l.fn.number (text_lines (drop l.from l.bytes)) l.at;
+  skip : IsSkip (text_lines (drop l.fn.place l.bytes)) l.fn.number
+      (text_lines (drop l.from l.bytes)) l.at;
   onward : l.fn.place ≤ l.from;
   within : l.from ≤ length l.bytes;
   some : 1 ≤ l.at;

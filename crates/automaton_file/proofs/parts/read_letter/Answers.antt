@@ -6,4 +6,6 @@ use Rattle.automaton_file.proofs.parts.read_letter.Goals as goal
 
 pub returns-in-len1 : goal.returns-in-len1
 returns-in-len1 c =
-    letter_found c.args.alphabet.now _ _ c.requires c.number.ensures.none c.number.ensures.some ∙ ap (letter_of c.args.alphabet.now) (sym (one_byte c.args.field.now c.in-len1.len_at_least c.in-len1.len_below))
+    letter_found c.args.alphabet.now _ _ c.requires c.number.ensures.none c.number.ensures.some
+    ∙ ap (letter_of c.args.alphabet.now)
+    (sym (one_byte c.args.field.now c.in-len1.len_at_least c.in-len1.len_below))

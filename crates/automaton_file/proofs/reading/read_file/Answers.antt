@@ -8,7 +8,8 @@ use Rattle.automaton_file.proofs.ReadSources.{read_is_source}
 use Rattle.automaton_file.proofs.Refusals.{fault_refusal}
 use Rattle.automaton_file.proofs.reading.read_file.Goals as goal
 
-pub returns-then-bytes-gt-MOST_BYTES-clause-refused : goal.returns-then-bytes-gt-MOST_BYTES-clause-refused
+pub returns-then-bytes-gt-MOST_BYTES-clause-refused :
+    goal.returns-then-bytes-gt-MOST_BYTES-clause-refused
 returns-then-bytes-gt-MOST_BYTES-clause-refused c =
     subst (IsFileRefusal c.args.bytes.now) (sym c.refused.ensures)
     (record { fault = TooLong; is_wrong = too_long c.if-bytes-gt-MOST_BYTES.true; number = refl })
@@ -23,6 +24,7 @@ returns-in-Ok-clause-ok c =
 
 pub returns-in-Err-Bad-clause-refused : goal.returns-in-Err-Bad-clause-refused
 returns-in-Err-Bad-clause-refused c =
-    let found = subst (IsReadFault (first_fault [] 1 (text_lines c.args.bytes.now))) c.in-Err-Bad.field-0-is c.in-Err-Bad.ensures.err in
+    let found = subst (IsReadFault (first_fault [] 1 (text_lines c.args.bytes.now)))
+    c.in-Err-Bad.field-0-is c.in-Err-Bad.ensures.err in
     subst (IsFileRefusal c.args.bytes.now) (sym c.refused-in-Err-Bad.ensures)
     (fault_refusal _ _ _ _ c.if-bytes-gt-MOST_BYTES.false found refl)

@@ -15,4 +15,7 @@ returns-in-Ok-clause-ok c = record {
 }
 
 pub returns-in-Err-Bad-clause-err : goal.returns-in-Err-Bad-clause-err
-returns-in-Err-Bad-clause-err c = part_refused (λ line. alphabet_fault (fields line)) _ _ _ c.in_ok-part.ensures.ok (subst (IsLineFault (alphabet_fault (fields c.in_ok-part.part.text.now))) c.in-Err-Bad.field-0-is c.in-Err-Bad.ensures.err)
+returns-in-Err-Bad-clause-err c =
+    part_refused (λ line. alphabet_fault (fields line)) _ _ _ c.in_ok-part.ensures.ok
+    (subst (IsLineFault (alphabet_fault (fields c.in_ok-part.part.text.now)))
+    c.in-Err-Bad.field-0-is c.in-Err-Bad.ensures.err)

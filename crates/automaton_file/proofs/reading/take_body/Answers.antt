@@ -5,7 +5,17 @@ use Rattle.automaton_file.proofs.PartFaults.{taken, part_refused}
 use Rattle.automaton_file.proofs.reading.take_body.Goals as goal
 
 pub returns-in-Ok-clause-ok : goal.returns-in-Ok-clause-ok
-returns-in-Ok-clause-ok c = record { line = c.in_ok-part.part.text.now; taken = taken _ _ c.in_ok-part.ensures.ok; passes = c.in-Ok.ensures.ok.0; begins = c.in-Ok.ensures.ok.1 }
+returns-in-Ok-clause-ok c =
+    record {
+      line = c.in_ok-part.part.text.now;
+      taken = taken _ _ c.in_ok-part.ensures.ok;
+      passes =
+          c.in-Ok.ensures.ok.0;
+      begins = c.in-Ok.ensures.ok.1;
+    }
 
 pub returns-in-Err-Bad-clause-err : goal.returns-in-Err-Bad-clause-err
-returns-in-Err-Bad-clause-err c = part_refused (body_fault c.args.alphabet.now) _ _ _ c.in_ok-part.ensures.ok (subst (IsLineFault (body_fault c.args.alphabet.now c.in_ok-part.part.text.now)) c.in-Err-Bad.field-0-is c.in-Err-Bad.ensures.err)
+returns-in-Err-Bad-clause-err c =
+    part_refused (body_fault c.args.alphabet.now) _ _ _ c.in_ok-part.ensures.ok
+    (subst (IsLineFault (body_fault c.args.alphabet.now c.in_ok-part.part.text.now))
+    c.in-Err-Bad.field-0-is c.in-Err-Bad.ensures.err)

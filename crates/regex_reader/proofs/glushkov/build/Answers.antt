@@ -9,9 +9,14 @@ use Rattle.regex_reader.proofs.glushkov.build.Goals as goal
 pub returns : goal.returns
 returns c =
     let last : HasFinals c.set_final_if.new.nfa c.set_finals.new.nfa (has c.args.part.now.last) =
-    subst (λ xs. HasFinals c.set_final_if.new.nfa c.set_finals.new.nfa (has xs)) c.last.ensures c.set_finals.ensures in
-    let empty : HasFinals c.set_initial.new.self c.set_final_if.new.nfa (λ p. c.args.part.now.has_empty && (0 == p)) =
-    subst (λ b. HasFinals c.set_initial.new.self c.set_final_if.new.nfa (λ p. b && (0 == p))) c.has_empty.ensures c.set_final_if.ensures in
-    built_from (length c.args.positions.now + 1) c.args.letters c.args.part.now.has_empty c.args.part.now.last c.args.marks.now c.args.positions.now
+    subst (λ xs. HasFinals c.set_final_if.new.nfa c.set_finals.new.nfa (has xs)) c.last.ensures
+    c.set_finals.ensures in
+    let empty : HasFinals c.set_initial.new.self c.set_final_if.new.nfa
+    (λ p. c.args.part.now.has_empty && (0 == p)) =
+    subst (λ b. HasFinals c.set_initial.new.self c.set_final_if.new.nfa (λ p. b && (0 == p)))
+    c.has_empty.ensures c.set_final_if.ensures in
+    built_from (length c.args.positions.now + 1) c.args.letters c.args.part.now.has_empty
+    c.args.part.now.last c.args.marks.now c.args.positions.now
     c.set_initial.new.self c.set_final_if.new.nfa c.set_finals.new.nfa c.add_rows.new.nfa
-    (c.set_initial.ensures ∙ ap (λ (m : Automaton). with_initial m 0) c.in_ok-nfa.ensures.bare) empty last c.in_ok-add_rows.ensures refl c.requires.width
+    (c.set_initial.ensures ∙ ap (λ (m : Automaton). with_initial m 0) c.in_ok-nfa.ensures.bare)
+    empty last c.in_ok-add_rows.ensures refl c.requires.width

@@ -10,7 +10,8 @@ returns-in-Some c =
     let letters = c.args.letters.now in
     let place = position_or_len (λ a. a == c.args.byte) letters in
     let found : c.position.result ≡ cond (nat_lt place (length letters)) (Some place) None =
-    position_from_yields_List (λ a. a == c.args.byte) _ _ c.position.result c.position.ensures.ran (YieldsList-from_slice _ c.iter.ensures.rest) (λ x b q k. search (rules, tests)) in
+    position_from_yields_List (λ a. a == c.args.byte) _ _ c.position.result c.position.ensures.ran
+    (YieldsList-from_slice _ c.iter.ensures.rest) (λ x b q k. search (rules, tests)) in
     found_class letters c.args.byte c.in-Some.place (sym found ∙ c.in-Some.is)
 
 pub returns-in-None : goal.returns-in-None
@@ -18,5 +19,6 @@ returns-in-None c =
     let letters = c.args.letters.now in
     let place = position_or_len (λ a. a == c.args.byte) letters in
     let found : c.position.result ≡ cond (nat_lt place (length letters)) (Some place) None =
-    position_from_yields_List (λ a. a == c.args.byte) _ _ c.position.result c.position.ensures.ran (YieldsList-from_slice _ c.iter.ensures.rest) (λ x b q k. search (rules, tests)) in
+    position_from_yields_List (λ a. a == c.args.byte) _ _ c.position.result c.position.ensures.ran
+    (YieldsList-from_slice _ c.iter.ensures.rest) (λ x b q k. search (rules, tests)) in
     lost_class letters c.args.byte (sym found ∙ c.in-None.is)

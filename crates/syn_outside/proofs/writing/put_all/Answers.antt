@@ -7,6 +7,7 @@ pub loop-rest-preserved : goal.loop-rest-preserved
 loop-rest-preserved g c =
     let before = c.loop-rest.invariant.taken in
     record {
-      taken = took_more _ _ _ before.0 _ _ _ _ before.1 before.2 c.in-Wrote.ensures.bytes.2 c.split_at.ensures.back;
+      taken = took_more _ _ _ before.0 _ _ _ _ before.1 before.2 c.in-Wrote.ensures.bytes.2
+          c.split_at.ensures.back;
       count = omega (arith, c.loop-rest.invariant.count, c.write.ensures.count);
     }

@@ -8,7 +8,8 @@ invariant-loop-rest g l =
     let written = g.S.Sink.written in
     let faults = g.S.Sink.faults in
     record {
-      taken : (prefix : List ℕ) × (prefix ++ l.rest ≡ l.piece) × Appends (written l.fn.sink) (written l.sink) prefix;
+      taken : (prefix : List ℕ) × (prefix ++ l.rest ≡ l.piece)
+          × Appends (written l.fn.sink) (written l.sink) prefix;
       count : faults l.fn.sink ≤ faults l.sink;
     }
 

@@ -6,4 +6,7 @@ use Rattle.syn_words.specs.Acceptance.{leads_to}
 use Rattle.syn_words.proofs.acceptance.step_back.Given as goal
 
 abbrev pub invariant-loop-from : goal.invariant-loop-from
-invariant-loop-from l = (length l.before.items ≡ length l.marks) × ((p : ℕ) → p < length l.marks → is_marked l.before.items p ≡ list_any (leads_to p l.letter l.marks) (take l.from-index l.steps))
+invariant-loop-from l = (length l.before.items ≡ length l.marks)
+    × ((p : ℕ) → p < length l.marks
+    → is_marked l.before.items p ≡ list_any (leads_to p l.letter l.marks)
+    (take l.from-index l.steps))

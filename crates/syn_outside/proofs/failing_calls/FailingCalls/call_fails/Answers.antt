@@ -18,7 +18,9 @@ returns-clause-more c = λ fails.
     let made = c.saturating_add-self-inside.result in
     let numbers = c.self.inside.failing.items in
     let any : list_any (λ n. n == c.self.inside.made) numbers ≡ true =
-    subst (λ (ns : List ℕ). list_any (λ n. n == c.self.inside.made) ns ≡ true) c.deref.ensures.value (sym c.contains.ensures.value ∙ fails) in
-    let within : c.self.inside.made < 2 ^ 64 - 1 = any_within c.self.inside.made (2 ^ 64 - 1) numbers c.self.invariant any in
+    subst (λ (ns : List ℕ). list_any (λ n. n == c.self.inside.made) ns ≡ true) c.deref.ensures.value
+    (sym c.contains.ensures.value ∙ fails) in
+    let within : c.self.inside.made < 2 ^ 64 - 1 =
+    any_within c.self.inside.made (2 ^ 64 - 1) numbers c.self.invariant any in
     subst (λ (calls : Calls). failed calls + 1 ≤ below made numbers) c.self.view_is
     (below_more c.self.inside.made made numbers (omega arith) any)

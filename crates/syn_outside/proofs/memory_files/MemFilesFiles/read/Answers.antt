@@ -14,9 +14,12 @@ returns-clause-got c =
     c.split_at.ensures.back ∙ ap (drop c.unwrap-read.result) c.deref.ensures.value in
     let same : bytes_left c.args.self.now ≡ left = grind (arith, common_steps) in
     let some : 1 ≤ n = grind (arith, common_steps) in
-    let fits : n ≤ length c.copy_from_slice.new.self = omega (arith, length-take n c.args.into.now) in
+    let fits : n ≤ length c.copy_from_slice.new.self =
+    omega (arith, length-take n c.args.into.now) in
     let within : n ≤ length left = omega arith in (
       some,
       omega (arith, length-append c.copy_from_slice.new.self (drop n c.args.into.now)),
-      same ∙ gives_next c.self.inside.bytes.items left c.copy_from_slice.new.self (drop n c.args.into.now) c.unwrap-read.result n rest c.copy_from_slice.ensures.after within,
+      same ∙ gives_next c.self.inside.bytes.items left c.copy_from_slice.new.self
+          (drop n c.args.into.now) c.unwrap-read.result n rest c.copy_from_slice.ensures.after
+          within,
     )
