@@ -22,7 +22,14 @@ impl Model for Part {
 
     ghost Value = { Summary };
 
-    ghost view = { λ r. record { has_word = r.has_word; has_empty = r.has_empty; is_closed = r.is_closed; positions = r.positions; first = r.first.items; last = r.last.items } };
+    ghost view = { λ r. record {
+      has_word = r.has_word;
+      has_empty = r.has_empty;
+      is_closed = r.is_closed;
+      positions = r.positions;
+      first = r.first.items;
+      last = r.last.items;
+    } };
 }
 
 impl Part {
