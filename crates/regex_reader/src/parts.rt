@@ -25,8 +25,7 @@ impl Model for Part {
     ghost view = { λ r. record {
       has_word = r.has_word;
       has_empty = r.has_empty;
-      is_closed =
-          r.is_closed;
+      is_closed = r.is_closed;
       positions = r.positions;
       first = r.first.items;
       last = r.last.items;
