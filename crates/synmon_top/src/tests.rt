@@ -350,11 +350,11 @@ fn a_run_over_real_files_reads_the_named_file(rt: HostRuntime) -> Result<(), Fai
     Ok(())
 }
 
-/// A run on the words whose whole length is 398 letters a, over an output that takes 65,536 bytes at a time: the status,
+/// A run on the word of 398 letters a, over an output that takes 65,536 bytes at a time and fails one call: the status,
 /// and what the output has.
 fn run_long<R: Threads + Sync + Abort + AllocGlobal>(
     rt: &R,
-    failing: &[u64],
+    failing_write: u8,
 ) -> Result<(u8, MemSink), Fail> {
     let alloc = rt.alloc();
     let mut text = String::from_str(alloc, "synmon 1\nalphabet a\nexpr ")?;
@@ -365,7 +365,8 @@ fn run_long<R: Threads + Sync + Abort + AllocGlobal>(
     words.push(String::from_str(alloc, "automaton")?)?;
     words.push(String::from_str(alloc, "name")?)?;
     let mut files = MemFiles::new(alloc, "name", text.as_bytes(), 1_000, &[])?;
-    let mut out = MemSink::new(alloc, 100_000, 65_536, failing)?;
+    let failing = [u64::from(failing_write)];
+    let mut out = MemSink::new(alloc, 100_000, 65_536, &failing)?;
     let mut errs = MemSink::new(alloc, WHOLE_LINE, 100, &[])?;
     let status = run(
         rt,
@@ -381,14 +382,14 @@ fn run_long<R: Threads + Sync + Abort + AllocGlobal>(
 
 #[test]
 fn a_long_text_is_cut_where_a_write_fails(rt: HostRuntime) -> Result<(), Fail> {
-    let (status, whole) = run_long(&rt, &[])?;
+    let (status, whole) = run_long(&rt, NEVER)?;
     assert_eq!(rt; status, 0);
     // A line for each of the 400 states, of which 399 have a least word of letters a.
     assert_eq!(rt; whole.bytes().len(), 84_814);
-    let (status, nothing) = run_long(&rt, &[0])?;
+    let (status, nothing) = run_long(&rt, 0)?;
     assert_eq!(rt; status, 6);
     assert_eq!(rt; nothing.bytes().len(), 0);
-    let (status, begun) = run_long(&rt, &[1])?;
+    let (status, begun) = run_long(&rt, 1)?;
     assert_eq!(rt; status, 6);
     assert_eq!(rt; begun.bytes().len(), 65_536);
     assert!(rt; whole.bytes().starts_with(begun.bytes()));
