@@ -1,0 +1,4 @@
+pub mod LeftSides
+pub mod RuleLists
+pub mod Reduced
+pub mod Examples
