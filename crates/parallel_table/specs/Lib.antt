@@ -1,0 +1,2 @@
+pub mod ProductTables
+pub mod Runs
