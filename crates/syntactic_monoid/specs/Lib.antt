@@ -1,0 +1,3 @@
+pub mod SyntacticMonoid
+pub mod Action
+pub mod Faults
