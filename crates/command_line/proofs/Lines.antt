@@ -1,5 +1,7 @@
 -- The words of a line ask for one request.
 use Rattle.std.proofs.Common.{◌≡◌, ◌∙◌, ◌<◌, ◌≤◌, ◌^◌, ℕ, List, Option, Some, length, get_or, refl, sym, ap, arith, subst}
+use Rattle.std.specs.Prelude.{cond, codes}
+use Rattle.std.specs.Str.{bytes_eq}
 use Rattle.std.specs.Fmt.{decimal}
 use Rattle.std.proofs.lemmas.Fmt.{decimal_injective}
 use Rattle.clap.specs.Words.{Row}
@@ -12,9 +14,18 @@ use Rattle.command_line.specs.Tables.{OptionRow, options, option_at, command_wor
 use Rattle.command_line.specs.Parsing.{rows_of_line}
 use Rattle.command_line.specs.Line.{IsTaken, IsLine, IsNumberIn, AreNumbersIn, IsFaultOf, IsInRange, numbers_of}
 
+-- the command with a word
+named : List ℕ → Command
+named word = cond (bytes_eq word (codes "monoid")) command.Monoid command.Automaton
+
+named-word : (c : Command) → named (command_word c) ≡ c
+unfolding named
+named-word command.Automaton = refl
+named-word command.Monoid = refl
+
 -- the word of a command is no other's
 one_command : (c d : Command) → command_word c ≡ command_word d → c ≡ d
-one_command command.Automaton command.Automaton e = refl
+one_command c d e = sym (named-word c) ∙ ap named e ∙ named-word d
 
 one_text : (o : Option (List ℕ)) (u v : List ℕ) → o ≡ Some u → o ≡ Some v → u ≡ v
 one_text o u v p q = let both : Some u ≡ Some v = sym p ∙ q in cc

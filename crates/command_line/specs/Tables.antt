@@ -33,3 +33,4 @@ option_at place = slice_index_or options place (row [] 0 0 0)
 -- the word of each command
 abbrev pub command_word : Command → List ℕ
 command_word command.Automaton = codes "automaton"
+command_word command.Monoid = codes "monoid"

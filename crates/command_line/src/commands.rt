@@ -7,6 +7,8 @@ ghost use Rattle.command_line.specs.Tables.{command_word};
 pub enum Command {
     /// The minimal automaton.
     Automaton,
+    /// The elements of the syntactic monoid and their rules.
+    Monoid,
 }
 
 /// The command with a word.
@@ -16,6 +18,7 @@ pub(crate) fn command_of(word: &str) -> Option<Command>
 {
     match word.as_bytes() {
         b"automaton" => Some(Command::Automaton),
+        b"monoid" => Some(Command::Monoid),
         _ => None,
     }
 }

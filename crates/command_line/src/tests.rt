@@ -8,26 +8,33 @@ use std::test::Fail;
 /// The numbers of a line without options.
 const USUAL: [u32; 7] = [2_000, 10_000, 2_000, 200_000, 6, 20_000, 1];
 
-/// A line about the file `f`, and the numbers of its options.
-const LINES: [(&[&str], [u32; 7]); 8] = [
-    (&["automaton", "f"], USUAL),
+/// The numbers of a line that sets the limit of elements to 6.
+const SIX_ELEMENTS: [u32; 7] = [2_000, 6, 2_000, 200_000, 6, 20_000, 1];
+
+/// A line about the file `f`, its command, and the numbers of its options.
+const LINES: [(&[&str], Command, [u32; 7]); 8] = [
+    (&["automaton", "f"], Command::Automaton, USUAL),
     (
-        &["automaton", "--elements", "6", "f"],
-        [2_000, 6, 2_000, 200_000, 6, 20_000, 1],
+        &["monoid", "--elements", "6", "f"],
+        Command::Monoid,
+        SIX_ELEMENTS,
     ),
     (
-        &["automaton", "--elements=6", "f"],
-        [2_000, 6, 2_000, 200_000, 6, 20_000, 1],
+        &["monoid", "--elements=6", "f"],
+        Command::Monoid,
+        SIX_ELEMENTS,
     ),
     (
-        &["--elements", "6", "automaton", "f"],
-        [2_000, 6, 2_000, 200_000, 6, 20_000, 1],
+        &["--elements", "6", "monoid", "f"],
+        Command::Monoid,
+        SIX_ELEMENTS,
     ),
     (
-        &["automaton", "f", "--elements", "6"],
-        [2_000, 6, 2_000, 200_000, 6, 20_000, 1],
+        &["monoid", "f", "--elements", "6"],
+        Command::Monoid,
+        SIX_ELEMENTS,
     ),
-    (&["automaton", "--", "f"], USUAL),
+    (&["automaton", "--", "f"], Command::Automaton, USUAL),
     (
         &[
             "automaton",
@@ -47,6 +54,7 @@ const LINES: [(&[&str], [u32; 7]); 8] = [
             "1",
             "f",
         ],
+        Command::Automaton,
         [1, 1, 1, 1, 1, 1, 1],
     ),
     (
@@ -68,6 +76,7 @@ const LINES: [(&[&str], [u32; 7]); 8] = [
             "64",
             "f",
         ],
+        Command::Automaton,
         [4_096, 50_000, 8_000, 1_000_000, 12, 100_000, 64],
     ),
 ];
@@ -75,9 +84,9 @@ const LINES: [(&[&str], [u32; 7]); 8] = [
 /// Words that are no line, and the first fault.
 const FAULTS: [(&[&str], LineFault); 28] = [
     (&[], LineFault::Words),
-    (&["automaton"], LineFault::Words),
-    (&["automaton", "f", "g"], LineFault::Words),
-    (&["automaton", "--colour", "1", "f"], LineFault::Words),
+    (&["monoid"], LineFault::Words),
+    (&["monoid", "f", "g"], LineFault::Words),
+    (&["monoid", "--colour", "1", "f"], LineFault::Words),
     (&["automaton", "--subsets", "f"], LineFault::Words),
     (&["automaton", "f", "--subsets"], LineFault::Words),
     (
@@ -109,7 +118,7 @@ const FAULTS: [(&[&str], LineFault); 28] = [
         LineFault::Number { option: 2 },
     ),
     (
-        &["automaton", "--nodes", "x", "f"],
+        &["monoid", "--nodes", "x", "f"],
         LineFault::Number { option: 3 },
     ),
     (
@@ -129,15 +138,15 @@ const FAULTS: [(&[&str], LineFault); 28] = [
         LineFault::Number { option: 5 },
     ),
     (
-        &["automaton", "--workers", "0", "f"],
+        &["monoid", "--workers", "0", "f"],
         LineFault::Number { option: 6 },
     ),
     (
-        &["automaton", "--workers", "65", "f"],
+        &["monoid", "--workers", "65", "f"],
         LineFault::Number { option: 6 },
     ),
     (
-        &["automaton", "--workers", "01", "f"],
+        &["monoid", "--workers", "01", "f"],
         LineFault::Number { option: 6 },
     ),
     (
@@ -154,16 +163,17 @@ fn listed(alloc: Global, words: &[&str]) -> Result<Vec<String>, Fail> {
     Ok(list)
 }
 
-/// Holds that the words ask for the command `automaton` on this file with these numbers.
+/// Holds that the words ask for the command on this file with these numbers.
 fn is_line<R: Abort + AllocGlobal>(
     rt: &R,
     words: &[&str],
+    command: Command,
     operand: &str,
     numbers: [u32; 7],
 ) -> Result<(), Fail> {
     let list = listed(rt.alloc(), words)?;
     let request = read_line(rt.alloc(), list.as_slice())?;
-    assert_eq!(rt; request.command, Command::Automaton);
+    assert_eq!(rt; request.command, command);
     assert_eq!(rt; request.operand.text(), operand);
     assert_eq!(rt;
         [
@@ -182,11 +192,17 @@ fn is_line<R: Abort + AllocGlobal>(
 
 #[test]
 fn lines_ask_for_requests(rt: HostRuntime) -> Result<(), Fail> {
-    for (words, numbers) in LINES {
-        is_line(&rt, words, "f", numbers)?;
+    for (words, command, numbers) in LINES {
+        is_line(&rt, words, command, "f", numbers)?;
     }
-    is_line(&rt, &["automaton", "--", "-f"], "-f", USUAL)?;
-    is_line(&rt, &["automaton", "-"], "-", USUAL)
+    is_line(
+        &rt,
+        &["automaton", "--", "-f"],
+        Command::Automaton,
+        "-f",
+        USUAL,
+    )?;
+    is_line(&rt, &["automaton", "-"], Command::Automaton, "-", USUAL)
 }
 
 #[test]

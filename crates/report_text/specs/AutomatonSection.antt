@@ -3,20 +3,16 @@ use Rattle.std.specs.Prelude.{ℕ, List, ◌++◌, codes}
 use Rattle.std.specs.Fmt.{decimal}
 use Rattle.language_theory.specs.Words.{word_at}
 use Rattle.language_theory.specs.Automaton.{is_marked}
-use Rattle.language_theory.specs.ShortlexGraph.{Graph, target}
+use Rattle.language_theory.specs.ShortlexGraph.{target}
 use Rattle.language_theory.specs.Nerode.{MinimalAutomaton}
-use Rattle.report_text.specs.Texts.{texts_below, word_text, membership_text}
-
--- the state to which each letter leads from the state i
-abbrev pub targets_text : Graph → ℕ → List ℕ
-targets_text graph i = texts_below (λ a. codes " " ++ decimal (target graph i a)) graph.letters
+use Rattle.report_text.specs.Texts.{texts_below, numbers_below, word_text, membership_text}
 
 -- a number, the least word, whether it is in the language, and the next state for each letter
 abbrev pub state_text : List ℕ → MinimalAutomaton → ℕ → List ℕ
 state_text signs m i =
     decimal i ++ codes " " ++ word_text signs (word_at m.words i) ++ codes " " ++ membership_text
     (is_marked m.finals i)
-    ++ targets_text m.graph i ++ codes "\n"
+    ++ numbers_below (target m.graph i) m.graph.letters ++ codes "\n"
 
 -- the letters, and the number of states
 abbrev pub automaton_head : List ℕ → MinimalAutomaton → List ℕ

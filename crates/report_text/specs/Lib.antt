@@ -1,3 +1,4 @@
 pub mod Texts
 pub mod Saying
 pub mod AutomatonSection
+pub mod MonoidSection

@@ -1,11 +1,16 @@
 -- How the parts of a line are written.
 use Rattle.std.specs.Prelude.{ℕ, zero, suc, Bool, cond, List, [], ◌∷◌, ◌++◌, codes, slice_index}
+use Rattle.std.specs.Fmt.{decimal}
 use Rattle.std.specs.List.{flat_map}
 
 -- the texts of 0, 1, .., n - 1, one after another
 abbrev pub texts_below : (ℕ → List ℕ) → ℕ → List ℕ
 texts_below text zero = []
 texts_below text (suc n) = texts_below text n ++ text n
+
+-- the numbers that belong to 0, 1, .., n - 1, each behind a blank
+abbrev pub numbers_below : (ℕ → ℕ) → ℕ → List ℕ
+numbers_below number n = texts_below (λ i. codes " " ++ decimal (number i)) n
 
 -- a letter, where `signs` has the byte of each
 abbrev pub letter_text : List ℕ → ℕ → List ℕ

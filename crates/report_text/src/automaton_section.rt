@@ -1,7 +1,9 @@
 //! The section `automaton` of a report.
 ghost use Rattle.std.specs.Prelude.{◌≡◌, ◌<◌, ◌++◌, length, false, OnOk};
+ghost use Rattle.language_theory.specs.ShortlexGraph.{target};
 ghost use Rattle.report_text.specs.Saying.{Says, channel};
-ghost use Rattle.report_text.specs.AutomatonSection.{automaton_text, automaton_head, state_text, targets_text};
+ghost use Rattle.report_text.specs.Texts.{numbers_below};
+ghost use Rattle.report_text.specs.AutomatonSection.{automaton_text, automaton_head, state_text};
 
 use crate::buffer::{Buffer, SayFault, say_rendered};
 use crate::rendering::{push_bytes, push_membership, push_number, push_word};
@@ -72,7 +74,8 @@ fn push_state(
 /// Puts behind a text the state to which each letter leads from a state.
 fn push_targets(text: &mut Vec<u8>, dfa: &MinDfa, state: u32) -> Result<(), Memory>
     requires { state < dfa.now.graph.size }
-    ensures { OnOk result (text.new.items ≡ text.old.items ++ targets_text dfa.now.graph state) }
+    ensures { OnOk result (text.new.items ≡ text.old.items
+        ++ numbers_below (target dfa.now.graph state) dfa.now.graph.letters) }
 {
     for letter in 0..dfa.letters() as u8 {
         push_bytes(text, b" ")?;

@@ -3,9 +3,11 @@
 
 mod automaton_section;
 mod buffer;
+mod monoid_section;
 mod rendering;
 #[cfg(test)]
 mod tests;
 
 pub use automaton_section::say_automaton;
 pub use buffer::{Buffer, SayFault, flush, say};
+pub use monoid_section::say_monoid;

@@ -9,7 +9,10 @@ use Rattle.automaton_file.proofs.SourceLaws.{one_source, one_refusal, refusal_sp
 use Rattle.command_line.specs.declared.request.Request.{Request}
 use Rattle.command_line.specs.Line.{IsLine, IsAccepted}
 use Rattle.command_line.proofs.Lines.{one_request}
+use Rattle.syntactic_monoid.specs.SyntacticMonoid.{SyntacticMonoid}
+use Rattle.syntactic_monoid.proofs.OneMonoid.{monoids_are_one}
 use Rattle.report_text.specs.AutomatonSection.{automaton_text}
+use Rattle.report_text.specs.MonoidSection.{monoid_text}
 use Rattle.synmon_top.specs.declared.sections.Section.{Section}
 use Rattle.synmon_top.specs.declared.sections.Section.TheVariants as section
 use Rattle.synmon_top.specs.Sections.{Limits, limits_of, Said, joined, sections_of, IsSection, AreSections, AreSaid, IsAutomatonSection}
@@ -19,6 +22,7 @@ use Rattle.synmon_top.specs.declared.ending.Ending.{Ending}
 use Rattle.synmon_top.specs.declared.ending.Ending.TheVariants as ending
 use Rattle.synmon_top.specs.declared.ending.Stop.{Stop}
 use Rattle.synmon_top.specs.declared.ending.Stop.TheVariants as stop
+use Rattle.synmon_top.proofs.Elements.{rules_are_one_too}
 use Rattle.synmon_top.proofs.Outcomes.{outcome-along}
 
 same_said : (p q : Said) → p.text ≡ q.text → p.limited ≡ q.limited → p ≡ q
@@ -33,6 +37,14 @@ one_section section.Automaton limits signs L p q h k =
     same_said p q
     (h.text ∙ ap (automaton_text signs)
     (one_minimal (length signs) L h.automaton k.automaton h.minimal k.minimal) ∙ sym k.text)
+    (h.unlimited ∙ sym k.unlimited)
+one_section section.Monoid limits signs L p q h k =
+    let monoid = monoids_are_one (length signs) L h.monoid k.monoid h.syntactic k.syntactic in
+    let rules = rules_are_one_too (length signs) L h.monoid k.monoid h.rules k.rules monoid
+    h.presentation k.presentation in
+    same_said p q
+    (h.text ∙ ap (λ (m : SyntacticMonoid). monoid_text signs m h.rules) monoid
+    ∙ ap (monoid_text signs k.monoid) rules ∙ sym k.text)
     (h.unlimited ∙ sym k.unlimited)
 
 all_sections : (sections : List Section) (limits : Limits) (signs : List ℕ) (L : List ℕ → Type 0)

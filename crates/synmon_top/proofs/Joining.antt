@@ -40,6 +40,15 @@ pub texts-next : {X : Type 0} (f : X → Said) (answers : List X) (i : ℕ) (d :
     ≡ flat_map (λ (one : Said). one.text) (map f (drop i answers))
 texts-next f answers i d below = rw (add-one, drop-cons answers i d) refl
 
+-- the same, where the answer at the place is named
+pub texts-of : {X : Type 0} (f : X → Said) (answers : List X) (i : ℕ) (x : X) → i < length answers
+    → x ≡ get_or answers i x
+    → (f x).text ++ flat_map (λ (one : Said). one.text) (map f (drop (i + 1) answers))
+    ≡ flat_map (λ (one : Said). one.text) (map f (drop i answers))
+texts-of f answers i x below is =
+    ap (λ y. (f y).text ++ flat_map (λ (one : Said). one.text) (map f (drop (i + 1) answers))) is
+    ∙ texts-next f answers i x below
+
 -- a limit from a place on: that of the place, or one behind it
 pub limits-next : {X : Type 0} (f : X → Said) (answers : List X) (i : ℕ) (d : X)
     → i < length answers

@@ -2,5 +2,6 @@ pub mod Telling
 pub mod Sources
 pub mod Joining
 pub mod Outcomes
+pub mod Elements
 pub mod Deciding
 pub mod Statuses

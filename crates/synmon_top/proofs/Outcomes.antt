@@ -1,6 +1,7 @@
 -- From what the work on a file's bytes came to, to how a run ended.
 use Rattle.std.proofs.Common.{◌≡◌, ◌⊎◌, ℕ, ◌+◌, true, false, List, [], ◌++◌, map, Option, Some, None, Result, Ok, Err, inl, inr, refl, ap, ◌∙◌, subst, take, append-nil}
-use Rattle.std.specs.Prelude.{◌↔◌, OnErr}
+use Rattle.std.specs.Prelude.{◌↔◌, OnErr, All}
+use Rattle.std.proofs.lemmas.List.Elements.{All-nil, All-cons}
 use Rattle.std.specs.Io.KnownBytes.{Appends}
 use Rattle.std.proofs.KnownBytes.{Appends-nil}
 use Rattle.syn_outside.specs.NamedFiles.{NamedFiles, bytes_of, HasPrefix}
@@ -14,38 +15,43 @@ use Rattle.command_line.specs.declared.fault.LineFault.TheVariants as line
 use Rattle.command_line.specs.Line.{IsLine, IsAccepted, IsFaultOf}
 use Rattle.command_line.proofs.Lines.{line_without_fault}
 use Rattle.synmon_top.specs.Sections.{Limits, Said, sections_of, limits_of, AreSections, AreSaid}
-use Rattle.synmon_top.specs.Answers.{Values, said_of, said_of_all}
+use Rattle.syntactic_monoid.specs.SyntacticMonoid.{SyntacticMonoid}
+use Rattle.synmon_top.specs.Answers.{Values, HasNeeds, said_of, said_of_all}
 use Rattle.report_text.specs.Saying.{Channel, IsSaid, IsBrokenOff}
 use Rattle.report_text.proofs.Channels.{broken-after}
 use Rattle.synmon_top.specs.declared.sections.Section.{Section}
+use Rattle.synmon_top.specs.declared.sections.Section.TheVariants as section
 use Rattle.synmon_top.specs.declared.answers.Answer.{Answer}
-use Rattle.synmon_top.specs.Reports.{Task, task_of, HasMoreSubsets, NeedsElements, IsStop, Verdict, said, stopped, refused, IsReportOn, IsVerdict}
+use Rattle.synmon_top.specs.Reports.{Task, task_of, HasMoreSubsets, HasMoreElements, NeedsElements, IsWithin, IsStop, Verdict, said, stopped, refused, IsReportOn, IsVerdict}
 use Rattle.synmon_top.specs.Outcome.{AreBytesOf, IsDue, BeginsDue, IsGivenPrefix, Outcome, EndsOn, Ends, ending_of_fault}
 use Rattle.synmon_top.specs.declared.ending.Ending.{Ending}
 use Rattle.synmon_top.specs.declared.ending.Ending.TheVariants as ending
 use Rattle.synmon_top.specs.declared.ending.Stop.{Stop}
 use Rattle.synmon_top.specs.declared.ending.Stop.TheVariants as stop
 
--- no command that there is needs the elements
-elements_not_needed : (c : Command) → ¬ NeedsElements c
-elements_not_needed command.Automaton needs = needs
-
-unstopped : (request : Request) (source : SourceText) → ¬ HasMoreSubsets source request.subsets
+unstopped : (request : Request) (source : SourceText) → IsWithin request source
     → (s : Stop) → ¬ IsStop (task_of request) source s
-unstopped request source few (stop.Subsets n) (same, more) =
-    few (subst (HasMoreSubsets source) same more)
-unstopped request source few (stop.Elements n) (needs, within, same, more) =
-    elements_not_needed request.command needs
+unstopped request source within (stop.Subsets n) (same, more) =
+    within.subsets (subst (HasMoreSubsets source) same more)
+unstopped request source within (stop.Elements n) (needs, few, same, more) =
+    within.elements needs (subst (HasMoreElements source) same more)
+
+-- where the monoid is there if the command needs it, the sections of the command have what they need
+pub needs_there : (c : Command) (v : Values)
+    → (NeedsElements c → (m : SyntacticMonoid) × (v.monoid ≡ Some m))
+    → All (HasNeeds v) (sections_of c)
+needs_there command.Automaton v there = All-cons (HasNeeds v) section.Automaton [] tt (All-nil (HasNeeds v))
+needs_there command.Monoid v there = All-cons (HasNeeds v) section.Monoid [] (there tt) (All-nil (HasNeeds v))
 
 -- what the sections say about a source that nothing stops
 pub report_on : (bytes : List ℕ) (request : Request) (source : SourceText) (text : Said)
-    → IsSource bytes source → ¬ HasMoreSubsets source request.subsets
+    → IsSource bytes source → IsWithin request source
     → AreSaid (sections_of request.command) (limits_of request) source.letters (language_of source)
     text → IsReportOn bytes (task_of request) text
-report_on bytes request source text spelled few says = record {
+report_on bytes request source text spelled within says = record {
   source = source;
   spelled = spelled;
-  unstopped = unstopped request source few;
+  unstopped = unstopped request source within;
   report = says;
 }
 
@@ -90,14 +96,14 @@ ends_refused bytes request at code old h = record {
   gained = Appends-nil old;
 }
 
-pub ends_stopped : (bytes : List ℕ) (request : Request) (source : SourceText)
-    (old : Option (List ℕ)) → IsSource bytes source → HasMoreSubsets source request.subsets
-    → EndsOn bytes request (ending.Stopped (stop.Subsets request.subsets)) old old
-ends_stopped bytes request source old spelled more = record {
+pub ends_stopped : (bytes : List ℕ) (request : Request) (source : SourceText) (s : Stop)
+    (old : Option (List ℕ)) → IsSource bytes source → IsStop (task_of request) source s
+    → EndsOn bytes request (ending.Stopped s) old old
+ends_stopped bytes request source s old spelled passed = record {
   out = [];
   outcome = λ held words line prefix. (
-    due held words bytes request (stopped (stop.Subsets request.subsets))
-        (record { source = source; spelled = spelled; passed = (refl, more) }) line prefix,
+    due held words bytes request (stopped s)
+        (record { source = source; spelled = spelled; passed = passed }) line prefix,
     refl,
   );
   gained = Appends-nil old;
@@ -184,15 +190,18 @@ outcome-along held words others accepted goes ending.NoMemory out (inr (text, is
 -- the answers to the sections of a request, as the report on the bytes
 pub report_of_answers : (bytes : List ℕ) (request : Request) (v : Values) (sections : List Section)
     (answers : List Answer) → IsSource bytes v.source
-    → ¬ HasMoreSubsets v.source request.subsets → sections ≡ sections_of request.command
-    → ((limits : Limits) → AreSections sections limits v.source.letters (language_of v.source)
-    (map (said_of v) answers))
+    → IsWithin request v.source → sections ≡ sections_of request.command
+    → v.limits ≡ limits_of request
+    → AreSections sections v.limits v.source.letters (language_of v.source)
+    (map (said_of v) answers)
     → IsReportOn bytes (task_of request) (said_of_all v answers)
-report_of_answers bytes request v sections answers spelled few same are =
+report_of_answers bytes request v sections answers spelled within same limits are =
     let P : List Section → Type 0 = λ ss. AreSections ss (limits_of request) v.source.letters
     (language_of v.source) (map (said_of v) answers) in
-    report_on bytes request v.source (said_of_all v answers) spelled few
-    (map (said_of v) answers, subst P same (are (limits_of request)), refl)
+    let Q : Limits → Type 0 = λ l. AreSections sections l v.source.letters (language_of v.source)
+    (map (said_of v) answers) in
+    report_on bytes request v.source (said_of_all v answers) spelled within
+    (map (said_of v) answers, subst P same (subst Q limits are), refl)
 
 -- said into an empty buffer, and then written to a prefix
 pub prefix_given : {a b c : Channel} {text : List ℕ} → a.buffer.bytes ≡ [] → IsSaid a b text

@@ -1,30 +1,74 @@
 -- The values that are computed for a request, and the text of an answer.
-use Rattle.std.specs.Prelude.{◌≡◌, ℕ, Bool, false, List, length, map}
+use Rattle.std.specs.Prelude.{◌≡◌, ℕ, Bool, false, List, length, map, All, [], Option, Some, None, ⊤}
 use Rattle.language_theory.specs.Nerode.{MinimalAutomaton, IsMinimal}
+use Rattle.language_theory.specs.ShortlexGraph.{SameNode}
+use Rattle.monoid_theory.specs.Presentation.{AreRules}
+use Rattle.syntactic_monoid.specs.SyntacticMonoid.{SyntacticMonoid, IsSyntacticMonoid}
 use Rattle.automaton_file.specs.FileText.{SourceText, source_text, language_of}
 use Rattle.report_text.specs.AutomatonSection.{automaton_text}
-use Rattle.synmon_top.specs.Sections.{Said, joined}
+use Rattle.report_text.specs.MonoidSection.{monoid_text}
+use Rattle.synmon_top.specs.Sections.{Limits, limits_of, Said, joined}
+use Rattle.synmon_top.specs.declared.sections.Section.{Section}
+use Rattle.synmon_top.specs.declared.sections.Section.TheVariants as section
 use Rattle.synmon_top.specs.declared.answers.Values as code
 use Rattle.synmon_top.specs.declared.answers.Answer.{Answer}
 use Rattle.synmon_top.specs.declared.answers.Answer.TheVariants as answer
 
--- what is computed once for the sections of a request: a source, and its minimal automaton
+-- what is computed once for the sections of a request: its limits, a source, its minimal automaton,
+-- and its syntactic monoid if the command needs it
 pub record Values : Type 0 where
+  pub limits : Limits
   pub source : SourceText
   pub automaton : MinimalAutomaton
+  pub monoid : Option SyntacticMonoid
 
 -- what the code lends to the sections, as values
 abbrev pub values_of : code.Values → Values
-values_of v = record { source = source_text v.source.now; automaton = v.dfa.now }
+values_of v = record {
+  limits = limits_of v.request.now;
+  source = source_text v.source.now;
+  automaton = v.dfa.now;
+  monoid = v.monoid.now;
+}
 
 -- the values are those of the source's language
-abbrev pub AreValues : Values → Type 0
-AreValues v = IsMinimal (length v.source.letters) (language_of v.source) v.automaton
+pub record AreValues (v : Values) : Type 0 where
+  pub minimal : IsMinimal (length v.source.letters) (language_of v.source) v.automaton
+  pub syntactic : (m : SyntacticMonoid) → v.monoid ≡ Some m
+      → IsSyntacticMonoid (length v.source.letters) (language_of v.source) m
+
+-- what the section needs is there
+abbrev pub HasNeeds : Values → Section → Type 0
+HasNeeds v section.Automaton = ⊤
+HasNeeds v section.Monoid = (m : SyntacticMonoid) × (v.monoid ≡ Some m)
+
+-- what the section `monoid` says: nothing where the monoid is not there
+abbrev pub text_with : List ℕ → List (List ℕ × ℕ) → Option SyntacticMonoid → List ℕ
+text_with signs rules None = []
+text_with signs rules (Some m) = monoid_text signs m rules
+
+abbrev pub monoid_said : Values → List (List ℕ × ℕ) → Said
+monoid_said v rules =
+    record { text = text_with v.source.letters rules v.monoid; limited = false }
 
 -- what the section of an answer says
 abbrev pub said_of : Values → Answer → Said
 said_of v answer.Automaton =
     record { text = automaton_text v.source.letters v.automaton; limited = false }
+said_of v (answer.Monoid rules) = monoid_said v rules
+
+-- the monoid is there, over the letters of the source, and the rules are its own
+pub record ArePresented (v : Values) (rules : List (List ℕ × ℕ)) : Type 0 where
+  pub monoid : SyntacticMonoid
+  pub there : v.monoid ≡ Some monoid
+  pub letters : monoid.graphs.right.letters ≡ length v.source.letters
+  pub own : AreRules (length v.source.letters) (SameNode monoid.graphs.right) monoid.graphs.words
+      rules
+
+-- the parts of an answer belong together
+abbrev pub IsSayable : Values → Answer → Type 0
+IsSayable v answer.Automaton = ⊤
+IsSayable v (answer.Monoid rules) = ArePresented v rules
 
 -- what the sections of several answers say, one after another
 abbrev pub said_of_all : Values → List Answer → Said

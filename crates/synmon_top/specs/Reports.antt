@@ -34,6 +34,12 @@ HasMoreElements source n = HasMoreClasses (length source.letters)
 -- the command needs the elements of the syntactic monoid
 abbrev pub NeedsElements : Command → Type 0
 NeedsElements command.Automaton = ⊥
+NeedsElements command.Monoid = ⊤
+
+-- a source is within the limits of a request's counts
+pub record IsWithin (request : Request) (source : SourceText) : Type 0 where
+  pub subsets : ¬ HasMoreSubsets source request.subsets
+  pub elements : NeedsElements request.command → ¬ HasMoreElements source request.elements
 
 -- Before a section is made, two counts are compared with their limits: first the sets of states,
 -- and then the elements, if the command needs them.

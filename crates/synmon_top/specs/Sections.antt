@@ -1,11 +1,15 @@
 -- The sections of a report: which sections a command prints, and what each says about a language.
 use Rattle.std.specs.Prelude.{◌≡◌, ℕ, Bool, true, false, List, [], ◌∷◌, ⊤, length}
 use Rattle.std.specs.List.{flat_map, list_any}
+use Rattle.language_theory.specs.Congruence.{Syntactic}
 use Rattle.language_theory.specs.Nerode.{MinimalAutomaton, IsMinimal}
+use Rattle.monoid_theory.specs.Presentation.{AreRules}
+use Rattle.syntactic_monoid.specs.SyntacticMonoid.{SyntacticMonoid, IsSyntacticMonoid}
 use Rattle.command_line.specs.declared.commands.Command.{Command}
 use Rattle.command_line.specs.declared.commands.Command.TheVariants as command
 use Rattle.command_line.specs.declared.request.Request.{Request}
 use Rattle.report_text.specs.AutomatonSection.{automaton_text}
+use Rattle.report_text.specs.MonoidSection.{monoid_text}
 use Rattle.synmon_top.specs.declared.sections.Section.{Section}
 use Rattle.synmon_top.specs.declared.sections.Section.TheVariants as section
 
@@ -33,6 +37,7 @@ limits_of r = record {
 -- The table of commands: the sections that a command prints, in their order.
 abbrev pub sections_of : Command → List Section
 sections_of command.Automaton = section.Automaton ∷ []
+sections_of command.Monoid = section.Monoid ∷ []
 
 -- what a section says: its text, and whether the answer that it tells is a limit
 pub record Said : Type 0 where
@@ -46,10 +51,21 @@ pub record IsAutomatonSection (signs : List ℕ) (L : List ℕ → Type 0) (said
   pub text : said.text ≡ automaton_text signs automaton
   pub unlimited : said.limited ≡ false
 
+-- The section `monoid`: the elements of the syntactic monoid, which are the classes of the syntactic
+-- congruence, each once by its least word, with both Cayley graphs; and the rules of that congruence.
+pub record IsMonoidSection (signs : List ℕ) (L : List ℕ → Type 0) (said : Said) : Type 0 where
+  pub monoid : SyntacticMonoid
+  pub syntactic : IsSyntacticMonoid (length signs) L monoid
+  pub rules : List (List ℕ × ℕ)
+  pub presentation : AreRules (length signs) (Syntactic (length signs) L) monoid.graphs.words rules
+  pub text : said.text ≡ monoid_text signs monoid rules
+  pub unlimited : said.limited ≡ false
+
 -- The table of sections: what each says about the language L over the letters with these signs,
 -- within the limits.
 abbrev pub IsSection : Section → Limits → List ℕ → (List ℕ → Type 0) → Said → Type 0
 IsSection section.Automaton limits signs L said = IsAutomatonSection signs L said
+IsSection section.Monoid limits signs L said = IsMonoidSection signs L said
 
 -- what each of these sections says, one after another
 abbrev pub AreSections : List Section → Limits → List ℕ → (List ℕ → Type 0) → List Said → Type 0

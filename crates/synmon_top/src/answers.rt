@@ -1,25 +1,32 @@
 //! What is computed for a request, and how its sections are said.
-ghost use Rattle.std.specs.Prelude.{◌≡◌, ◌≤◌, false, length, map, IfOk};
+ghost use Rattle.std.specs.Prelude.{◌≡◌, ◌≤◌, false, length, map, All, IfOk};
 ghost use Rattle.report_text.specs.Saying.{Says, channel};
 ghost use Rattle.automaton_file.specs.FileText.{language_of};
-ghost use Rattle.synmon_top.specs.Sections.{Limits, IsSection, AreSections};
-ghost use Rattle.synmon_top.specs.Answers.{AreValues, values_of, said_of, said_of_all};
+ghost use Rattle.synmon_top.specs.Sections.{IsSection, AreSections};
+ghost use Rattle.synmon_top.specs.Answers.{AreValues, HasNeeds, IsSayable, ArePresented, values_of, monoid_said, said_of, said_of_all};
 
 use crate::sections::Section;
 use automaton_file::Source;
-use report_text::{Buffer, SayFault, say_automaton};
+use command_line::Request;
+use presentation::{Rules, rules_of};
+use report_text::{Buffer, SayFault, say_automaton, say_monoid};
 use std::alloc::Global;
 use subset_minimal::MinDfa;
 use syn_outside::Sink;
 use syn_words::Memory;
+use syntactic_monoid::Syntactic;
 
 /// What is computed once for a request and lent to its sections.
 #[derive(Clone, Copy)]
 pub(crate) struct Values<'a> {
+    /// What is asked for, and within which limits.
+    pub(crate) request: &'a Request,
     /// What the file spells.
     pub(crate) source: &'a Source,
     /// The minimal automaton of its language.
     pub(crate) dfa: &'a MinDfa,
+    /// The syntactic monoid of its language, if the command needs it.
+    pub(crate) monoid: &'a Option<Syntactic>,
 }
 
 /// What a section has to tell.
@@ -27,6 +34,8 @@ pub(crate) struct Values<'a> {
 pub enum Answer {
     /// The minimal automaton.
     Automaton,
+    /// The elements of the syntactic monoid, and its rules.
+    Monoid(Rules),
 }
 
 impl Answer {
@@ -35,40 +44,61 @@ impl Answer {
         ensures { result ≡ (said_of (values_of values.now) self.now).limited }
     {
         match self {
-            Answer::Automaton => false,
+            Answer::Automaton | Answer::Monoid(_) => false,
         }
     }
 }
 
-/// The answers of sections, in their order. Condition: the automaton is that of the source's language.
+/// The answers of sections, in their order. Conditions: the values are those of the source's language, and what the
+/// sections need is there.
 pub(crate) fn answer_sections(
     alloc: Global,
     sections: &[Section],
     values: &Values<'_>,
 ) -> Result<Vec<Answer>, Memory>
-    requires { AreValues (values_of values.now) }
-    ensures { IfOk result (λ answers. (limits : Limits)
-        → AreSections sections.now limits (values_of values.now).source.letters
-        (language_of (values_of values.now).source)
+    requires values { AreValues (values_of values.now) }
+    requires needs { All (HasNeeds (values_of values.now)) sections.now }
+    ensures sayable { IfOk result (λ answers. All (IsSayable (values_of values.now)) answers.items) }
+    ensures said { IfOk result (λ answers. AreSections sections.now (values_of values.now).limits
+        (values_of values.now).source.letters (language_of (values_of values.now).source)
         (map (said_of (values_of values.now)) answers.items)) }
 {
     let mut answers = Vec::with_capacity(alloc, sections.len())?;
     for section in sections {
-        answers.push(answer_section(*section, values)?)?;
+        answers.push(answer_section(alloc, *section, values)?)?;
     }
     Ok(answers)
 }
 
-/// The answer of a section. Condition: the automaton is that of the source's language.
-fn answer_section(section: Section, values: &Values<'_>) -> Result<Answer, Memory>
-    requires { AreValues (values_of values.now) }
-    ensures { IfOk result (λ answer. (limits : Limits)
-        → IsSection section limits (values_of values.now).source.letters
-        (language_of (values_of values.now).source) (said_of (values_of values.now) answer)) }
+/// The answer of a section. Conditions: the values are those of the source's language, and what the section needs is
+/// there.
+fn answer_section(alloc: Global, section: Section, values: &Values<'_>) -> Result<Answer, Memory>
+    requires values { AreValues (values_of values.now) }
+    requires needs { HasNeeds (values_of values.now) section }
+    ensures sayable { IfOk result (λ answer. IsSayable (values_of values.now) answer) }
+    ensures said { IfOk result (λ answer. IsSection section (values_of values.now).limits
+        (values_of values.now).source.letters (language_of (values_of values.now).source)
+        (said_of (values_of values.now) answer)) }
 {
     match section {
         Section::Automaton => Ok(Answer::Automaton),
+        Section::Monoid => answer_monoid(alloc, values),
     }
+}
+
+/// The answer of the section `monoid`. Conditions: the values are those of the source's language, and the monoid is
+/// there.
+fn answer_monoid(alloc: Global, values: &Values<'_>) -> Result<Answer, Memory>
+    requires values { AreValues (values_of values.now) }
+    requires needs { HasNeeds (values_of values.now) Section.Monoid }
+    ensures sayable { IfOk result (λ answer. IsSayable (values_of values.now) answer) }
+    ensures said { IfOk result (λ answer. IsSection Section.Monoid (values_of values.now).limits
+        (values_of values.now).source.letters (language_of (values_of values.now).source)
+        (said_of (values_of values.now) answer)) }
+{
+    let monoid = values.monoid.as_ref().unwrap();
+    let rules = rules_of(alloc, monoid.cayley())?;
+    Ok(Answer::Monoid(rules))
 }
 
 /// Whether one of the answers is a limit.
@@ -83,7 +113,8 @@ pub(crate) fn have_limit(answers: &[Answer], values: &Values<'_>) -> bool
     false
 }
 
-/// Says the sections of the answers, one after another. Condition: the buffer is not broken.
+/// Says the sections of the answers, one after another. Conditions: the parts of each answer belong together, and the
+/// buffer is not broken.
 pub(crate) fn say_answers<S: Sink>(
     alloc: Global,
     sink: &mut S,
@@ -92,6 +123,7 @@ pub(crate) fn say_answers<S: Sink>(
     answers: &[Answer],
 ) -> Result<(), SayFault>
     requires values { AreValues (values_of values.now) }
+    requires sayable { All (IsSayable (values_of values.now)) answers.now }
     requires whole { buffer.old.broken ≡ false }
     ensures { Says (channel (S.written sink.old) (S.faults sink.old) buffer.old) result
         (channel (S.written sink.new) (S.faults sink.new) buffer.new)
@@ -103,7 +135,7 @@ pub(crate) fn say_answers<S: Sink>(
     Ok(())
 }
 
-/// Says the section of an answer. Condition: the buffer is not broken.
+/// Says the section of an answer. Conditions: its parts belong together, and the buffer is not broken.
 fn say_answer<S: Sink>(
     alloc: Global,
     sink: &mut S,
@@ -112,6 +144,7 @@ fn say_answer<S: Sink>(
     answer: &Answer,
 ) -> Result<(), SayFault>
     requires values { AreValues (values_of values.now) }
+    requires sayable { IsSayable (values_of values.now) answer.now }
     requires whole { buffer.old.broken ≡ false }
     ensures { Says (channel (S.written sink.old) (S.faults sink.old) buffer.old) result
         (channel (S.written sink.new) (S.faults sink.new) buffer.new)
@@ -125,5 +158,24 @@ fn say_answer<S: Sink>(
             &values.source.alphabet,
             values.dfa,
         ),
+        Answer::Monoid(rules) => say_rules_of(alloc, sink, buffer, values, rules),
     }
+}
+
+/// Says the section `monoid`. Conditions: the monoid is there and the rules are its own, and the buffer is not broken.
+fn say_rules_of<S: Sink>(
+    alloc: Global,
+    sink: &mut S,
+    buffer: &mut Buffer,
+    values: &Values<'_>,
+    rules: &Rules,
+) -> Result<(), SayFault>
+    requires sayable { ArePresented (values_of values.now) rules.now }
+    requires whole { buffer.old.broken ≡ false }
+    ensures { Says (channel (S.written sink.old) (S.faults sink.old) buffer.old) result
+        (channel (S.written sink.new) (S.faults sink.new) buffer.new)
+        (monoid_said (values_of values.now) rules.now).text }
+{
+    let monoid = values.monoid.as_ref().unwrap();
+    say_monoid(alloc, sink, buffer, &values.source.alphabet, monoid, rules)
 }

@@ -1,27 +1,40 @@
 //! The report on a file.
-ghost use Rattle.std.specs.Prelude.{◌≡◌, ◌≢◌, ◌≤◌, length, IfOk, IsErrOf, OnOk, OnErr};
+ghost use Rattle.std.specs.Prelude.{ℕ, List, ◌≡◌, ◌≢◌, ◌≤◌, length, is_some, All, IsTrue, IfOk, IfSome, IsErrOf, OnOk, OnErr};
 ghost use Rattle.std.specs.Io.KnownBytes.{Appends};
-ghost use Rattle.language_theory.specs.Nerode.{IsMinimal};
+ghost use Rattle.language_theory.specs.Congruence.{Syntactic as SyntacticCongruence};
+ghost use Rattle.language_theory.specs.Nerode.{IsMinimal, accepted};
+ghost use Rattle.language_theory.specs.Representatives.{HasMoreClasses};
 ghost use Rattle.syn_outside.specs.Counts.{Rose};
-ghost use Rattle.automaton_file.specs.FileText.{source_text, body_text, language_of, IsSoundSource, CanBuild};
+ghost use Rattle.automaton_file.specs.FileText.{source_text, body_text, language_of, IsSource, IsSoundSource, CanBuild};
 ghost use Rattle.command_line.specs.Line.{IsInRange};
-ghost use Rattle.synmon_top.specs.Answers.{AreValues, values_of, said_of_all};
-ghost use Rattle.synmon_top.specs.Reports.{HasMoreSubsets};
+ghost use Rattle.syntactic_monoid.specs.SyntacticMonoid.{IsSyntacticMonoid};
+ghost use Rattle.synmon_top.specs.Sections.{sections_of};
+ghost use Rattle.synmon_top.specs.Answers.{AreValues, HasNeeds, IsSayable, values_of, said_of_all};
+ghost use Rattle.synmon_top.specs.Reports.{HasMoreSubsets, NeedsElements, IsWithin};
 ghost use Rattle.synmon_top.specs.Outcome.{EndsOn, IsGivenPrefix};
 
 use crate::answers::{Answer, Values, answer_sections, have_limit, say_answers};
 use crate::ending::{Ending, Stop};
-use crate::sections::sections_of;
+use crate::sections::{needs_elements, sections_of};
 use automaton_file::{FileFault, Source, body_nfa, read_file};
 use command_line::Request;
 use report_text::{Buffer, SayFault, flush};
 use std::alloc::Global;
+use std::thread::Threads;
 use subset_minimal::{MOST_SUBSETS, MinDfa, MinFault, minimal};
-use syn_outside::Sink;
+use syn_outside::{Gate, Sink};
+use syntactic_monoid::{SynFault, Syntactic, syntactic_of};
 
-/// Writes what a request asks for about the source that the bytes spell. Condition: its numbers are in the ranges of their
-/// options.
-pub(crate) fn report<O: Sink>(alloc: Global, bytes: &[u8], request: &Request, out: &mut O) -> Ending
+/// Writes what a request asks for about the source that the bytes spell. Condition: its numbers are in the ranges of
+/// their options.
+pub(crate) fn report<R: Threads + Sync, O: Sink, G: Gate + Sync>(
+    rt: &R,
+    alloc: Global,
+    bytes: &[u8],
+    request: &Request,
+    out: &mut O,
+    gate: &G,
+) -> Ending
     requires { IsInRange request.now }
     ensures ends { EndsOn bytes.now request.now result (O.written out.old) (O.written out.new) }
     ensures read { result ≢ Ending.CannotRead }
@@ -38,20 +51,18 @@ pub(crate) fn report<O: Sink>(alloc: Global, bytes: &[u8], request: &Request, ou
         Err(MinFault::SubsetLimit) => return Ending::Stopped(Stop::Subsets(request.subsets)),
         Err(MinFault::Memory) => return Ending::NoMemory,
     };
+    let monoid = match monoid_of(rt, alloc, &dfa, request, gate) {
+        Ok(monoid) => monoid,
+        Err(SynFault::ElementLimit) => return Ending::Stopped(Stop::Elements(request.elements)),
+        Err(SynFault::Memory) => return Ending::NoMemory,
+    };
     let values = Values {
+        request,
         source: &source,
         dfa: &dfa,
+        monoid: &monoid,
     };
-    let Ok(answers) = answer_sections(alloc, sections_of(request.command), &values) else {
-        return Ending::NoMemory;
-    };
-    let all = answers.as_slice();
-    match print(alloc, &values, all, out) {
-        Ok(()) if have_limit(all, &values) => Ending::Limited,
-        Ok(()) => Ending::Whole,
-        Err(SayFault::Write) => Ending::CannotWrite,
-        Err(SayFault::Memory) => Ending::NoMemory,
-    }
+    write_sections(alloc, &values, out)
 }
 
 /// The minimal automaton of a source's language.
@@ -61,12 +72,68 @@ fn minimal_of(alloc: Global, source: &Source, max_subsets: u32) -> Result<MinDfa
     requires buildable { CanBuild (length source.now.alphabet) (body_text source.now.body) }
     ensures minimal { IfOk result (λ dfa. IsMinimal (length source.now.alphabet)
         (language_of (source_text source.now)) dfa) }
+    ensures size { IfOk result (λ dfa. dfa.graph.size ≤ MOST_SUBSETS) }
     ensures few { OnOk result (¬ HasMoreSubsets (source_text source.now) max_subsets) }
     ensures many { IsErrOf result MinFault.SubsetLimit
         → HasMoreSubsets (source_text source.now) max_subsets }
 {
     let nfa = body_nfa(alloc, source)?;
     minimal(alloc, &nfa, max_subsets)
+}
+
+/// The syntactic monoid of the language that a minimal automaton accepts, if the command needs it. Conditions: the
+/// automaton has at most as many states as the largest limit of subsets, and the numbers of the request are in the
+/// ranges of their options.
+fn monoid_of<R: Threads + Sync, G: Gate + Sync>(
+    rt: &R,
+    alloc: Global,
+    dfa: &MinDfa,
+    request: &Request,
+    gate: &G,
+) -> Result<Option<Syntactic>, SynFault>
+    requires range { IsInRange request.now }
+    requires size { dfa.now.graph.size ≤ MOST_SUBSETS }
+    ensures there { NeedsElements request.now.command → IfOk result (λ m. IsTrue (is_some m)) }
+    ensures syntactic { IfOk result (λ monoid. IfSome monoid (λ m.
+        IsSyntacticMonoid dfa.now.graph.letters (accepted dfa.now) m)) }
+    ensures few { OnOk result (NeedsElements request.now.command
+        → ¬ HasMoreClasses dfa.now.graph.letters
+        (SyntacticCongruence dfa.now.graph.letters (accepted dfa.now)) request.now.elements) }
+    ensures needed { IsErrOf result SynFault.ElementLimit → NeedsElements request.now.command }
+    ensures many { IsErrOf result SynFault.ElementLimit → HasMoreClasses dfa.now.graph.letters
+        (SyntacticCongruence dfa.now.graph.letters (accepted dfa.now)) request.now.elements }
+{
+    if !needs_elements(request.command) {
+        return Ok(None);
+    }
+    let monoid = syntactic_of(rt, alloc, dfa, request.elements, request.workers, gate)?;
+    Ok(Some(monoid))
+}
+
+/// Computes the answers of the sections that are asked for, and writes them. Conditions: the values are those of the
+/// source's language, and what the sections need is there.
+fn write_sections<O: Sink>(alloc: Global, values: &Values<'_>, out: &mut O) -> Ending
+    requires values { AreValues (values_of values.now) }
+    requires needs { All (HasNeeds (values_of values.now))
+        (sections_of values.now.request.now.command) }
+    ensures ends { (bytes : List ℕ) → IsSource bytes (values_of values.now).source
+        → IsWithin values.now.request.now (values_of values.now).source
+        → EndsOn bytes values.now.request.now result (O.written out.old) (O.written out.new) }
+    ensures read { result ≢ Ending.CannotRead }
+    ensures failed { result ≡ Ending.CannotWrite → Rose (O.faults out.old) (O.faults out.new) }
+    ensures count { O.faults out.old ≤ O.faults out.new }
+{
+    let sections = sections_of(values.request.command);
+    let Ok(answers) = answer_sections(alloc, sections, values) else {
+        return Ending::NoMemory;
+    };
+    let all = answers.as_slice();
+    match print(alloc, values, all, out) {
+        Ok(()) if have_limit(all, values) => Ending::Limited,
+        Ok(()) => Ending::Whole,
+        Err(SayFault::Write) => Ending::CannotWrite,
+        Err(SayFault::Memory) => Ending::NoMemory,
+    }
 }
 
 /// Writes the sections of the answers.
@@ -76,7 +143,8 @@ fn print<O: Sink>(
     answers: &[Answer],
     out: &mut O,
 ) -> Result<(), SayFault>
-    requires { AreValues (values_of values.now) }
+    requires values { AreValues (values_of values.now) }
+    requires sayable { All (IsSayable (values_of values.now)) answers.now }
     ensures whole { OnOk result (Appends (O.written out.old) (O.written out.new)
         (said_of_all (values_of values.now) answers.now).text) }
     ensures cut { OnErr result (IsGivenPrefix (O.written out.old) (O.written out.new)

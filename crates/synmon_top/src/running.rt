@@ -24,13 +24,13 @@ const LIMIT: u32 = 1_048_576;
 /// a count passed its limit, and nothing is on `out`, or the whole text is on `out` and a section of it tells a limit.
 /// 6: the text was not written to its end. 7: the system gave no memory. A failure of `errs` changes no status.
 pub fn run<R: Threads + Sync, F: Files, O: Sink, E: Sink, G: Gate + Sync>(
-    _rt: &R,
+    rt: &R,
     alloc: Global,
     words: &[String],
     files: &mut F,
     out: &mut O,
     errs: &mut E,
-    _gate: &G,
+    gate: &G,
 ) -> u8
     ensures outcome { Runs (F.held files.old) (map string_bytes words.now) result
         (O.written out.old) (O.written out.new) (E.written errs.old) (E.written errs.new)
@@ -63,13 +63,20 @@ pub fn run<R: Threads + Sync, F: Files, O: Sink, E: Sink, G: Gate + Sync>(
     ensures out_count { O.faults out.old ≤ O.faults out.new }
     ensures errs_count { E.faults errs.old ≤ E.faults errs.new }
 {
-    let ending = answer(alloc, words, files, out);
+    let ending = answer(rt, alloc, words, files, out, gate);
     tell(errs, ending);
     ending.status()
 }
 
 /// Writes the text that the words ask for to `out`, and says how that ended.
-fn answer<F: Files, O: Sink>(alloc: Global, words: &[String], files: &mut F, out: &mut O) -> Ending
+fn answer<R: Threads + Sync, F: Files, O: Sink, G: Gate + Sync>(
+    rt: &R,
+    alloc: Global,
+    words: &[String],
+    files: &mut F,
+    out: &mut O,
+    gate: &G,
+) -> Ending
     ensures ends { Ends (F.held files.old) (map string_bytes words.now) result (O.written out.old)
         (O.written out.new) }
     ensures untouched { (¬ IsAccepted (map string_bytes words.now))
@@ -89,7 +96,7 @@ fn answer<F: Files, O: Sink>(alloc: Global, words: &[String], files: &mut F, out
         Err(fault) => return without_request(fault),
     };
     match read_all(alloc, files, request.operand.text(), LIMIT) {
-        Ok(bytes) => report(alloc, bytes.as_slice(), &request, out),
+        Ok(bytes) => report(rt, alloc, bytes.as_slice(), &request, out, gate),
         Err(ReadFault::Missing) => Ending::CannotRead,
         Err(ReadFault::Failed) => Ending::CannotRead,
         Err(ReadFault::Memory) => Ending::NoMemory,

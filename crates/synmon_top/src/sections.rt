@@ -1,6 +1,7 @@
 //! The sections of a report.
-ghost use Rattle.std.specs.Prelude.{◌≡◌};
+ghost use Rattle.std.specs.Prelude.{◌≡◌, ◌↔◌, IsTrue};
 ghost use Rattle.synmon_top.specs.Sections.{sections_of};
+ghost use Rattle.synmon_top.specs.Reports.{NeedsElements};
 
 use command_line::Command;
 
@@ -9,6 +10,8 @@ use command_line::Command;
 pub enum Section {
     /// The minimal automaton.
     Automaton,
+    /// The elements of the syntactic monoid, and its rules.
+    Monoid,
 }
 
 /// The sections that a command prints, in their order.
@@ -17,5 +20,16 @@ pub(crate) fn sections_of(command: Command) -> &'static [Section]
 {
     match command {
         Command::Automaton => &[Section::Automaton],
+        Command::Monoid => &[Section::Monoid],
+    }
+}
+
+/// Whether a command needs the elements of the syntactic monoid.
+pub(crate) fn needs_elements(command: Command) -> bool
+    ensures { IsTrue result ↔ NeedsElements command }
+{
+    match command {
+        Command::Automaton => false,
+        Command::Monoid => true,
     }
 }

@@ -14,11 +14,17 @@ const AB_STAR: &str =
 const AB_STAR_TEXT: &str =
     "automaton\nalphabet ab\nstates 3\n0 1 in 1 2\n1 a out 2 0\n2 b out 2 2\n";
 
+const AB_STAR_MONOID: &str =
+    "monoid\nelements 6\n0 1 in right 1 2 left 1 2\n1 a out right 3 4 left 3 5\n2 b out right 5 3 left 4 3\n3 aa out right 3 3 left 3 3\n4 ab in right 1 3 left 3 2\n5 ba out right 3 2 left 1 3\nrules 6\nbb aa\naaa aa\naab aa\naba a\nbaa aa\nbab b\n";
+
 /// The words with an even number of a, by four states that fold in pairs, and one that no word leads to.
 const EVEN_AS: &str =
     "synmon 1\nalphabet ba\nnfa 5\ninitial 2\nfinal 0 2 4\n0 a 1\n0 b 2\n1 a 0\n1 b 3\n2 a 3\n2 b 0\n3 a 2\n3 b 1\n4 a 4\n4 b 4\n";
 
 const EVEN_AS_TEXT: &str = "automaton\nalphabet ba\nstates 2\n0 1 in 0 1\n1 a out 1 0\n";
+
+const EVEN_AS_MONOID: &str =
+    "monoid\nelements 2\n0 1 in right 0 1 left 0 1\n1 a out right 1 0 left 1 0\nrules 2\nb 1\naa 1\n";
 
 /// No word, by a final state that no word leads to.
 const NO_WORD: &str = "synmon 1\nalphabet a\nnfa 2\ninitial 1\nfinal 0\n0 a 1\n1 a 1\n";
@@ -68,6 +74,264 @@ const GOOD: Row = Row {
     errs: "",
 };
 
+const REFUSED: Row = Row {
+    status: 4,
+    out: "",
+    ..GOOD
+};
+
+const BAD_LINE: Row = Row {
+    status: 2,
+    out: "",
+    errs: "synmon: bad command line\n",
+    ..GOOD
+};
+
+const CANNOT_READ: Row = Row {
+    status: 3,
+    out: "",
+    errs: "synmon: cannot read\n",
+    ..GOOD
+};
+
+const CANNOT_WRITE: Row = Row {
+    status: 6,
+    errs: "synmon: cannot write\n",
+    ..GOOD
+};
+
+const STOPPED: Row = Row {
+    status: 5,
+    out: "",
+    ..GOOD
+};
+
+/// Runs that write the whole text.
+const TEXTS: [Row; 15] = [
+    GOOD,
+    Row {
+        file: EVEN_AS,
+        out: EVEN_AS_TEXT,
+        ..GOOD
+    },
+    Row {
+        file: NO_WORD,
+        out: "automaton\nalphabet a\nstates 1\n0 1 out 0\n",
+        ..GOOD
+    },
+    Row {
+        file: FIVE_SETS,
+        ..GOOD
+    },
+    Row {
+        file: "synmon 1\nalphabet ab\nexpr (ab)*\n",
+        ..GOOD
+    },
+    Row {
+        file: "synmon 1\nalphabet ab\nexpr 0\n",
+        out: "automaton\nalphabet ab\nstates 1\n0 1 out 0 0\n",
+        ..GOOD
+    },
+    Row {
+        words: &["automaton", "--subsets", "3", "name"],
+        file: DEAD_SIGN,
+        out: "automaton\nalphabet ab\nstates 3\n0 1 out 1 2\n1 a out 1 1\n2 b in 1 1\n",
+        ..GOOD
+    },
+    Row {
+        words: &["automaton", "--subsets", "17", "name"],
+        file: FOURTH_LAST_A,
+        out: FOURTH_LAST_A_TEXT,
+        ..GOOD
+    },
+    Row {
+        words: &["automaton", "--subsets", "5", "name"],
+        file: FIVE_SETS,
+        ..GOOD
+    },
+    Row {
+        words: &["automaton", "--subsets", "4096", "name"],
+        file: FIVE_SETS,
+        ..GOOD
+    },
+    Row {
+        words: &["automaton", "--subsets=5", "name"],
+        file: FIVE_SETS,
+        ..GOOD
+    },
+    Row {
+        words: &["--workers", "64", "automaton", "name", "--level", "12"],
+        ..GOOD
+    },
+    Row {
+        words: &["monoid", "name"],
+        out: AB_STAR_MONOID,
+        ..GOOD
+    },
+    Row {
+        words: &["monoid", "--elements", "6", "--workers", "7", "name"],
+        file: FIVE_SETS,
+        out: AB_STAR_MONOID,
+        ..GOOD
+    },
+    Row {
+        words: &["monoid", "name"],
+        file: EVEN_AS,
+        out: EVEN_AS_MONOID,
+        ..GOOD
+    },
+];
+
+/// Runs that a count stops.
+const STOPS: [Row; 5] = [
+    Row {
+        words: &["automaton", "--subsets", "2", "name"],
+        file: DEAD_SIGN,
+        errs: "synmon: limit subsets 2\n",
+        ..STOPPED
+    },
+    Row {
+        words: &["automaton", "--subsets", "16", "name"],
+        file: FOURTH_LAST_A,
+        errs: "synmon: limit subsets 16\n",
+        ..STOPPED
+    },
+    Row {
+        words: &["automaton", "--subsets", "4", "name"],
+        file: FIVE_SETS,
+        errs: "synmon: limit subsets 4\n",
+        ..STOPPED
+    },
+    Row {
+        words: &["monoid", "--elements", "5", "name"],
+        errs: "synmon: limit elements 5\n",
+        ..STOPPED
+    },
+    Row {
+        words: &["monoid", "--subsets", "4", "--elements", "5", "name"],
+        file: FIVE_SETS,
+        errs: "synmon: limit subsets 4\n",
+        ..STOPPED
+    },
+];
+
+/// Runs on words that are no line.
+const BAD_LINES: [Row; 14] = [
+    Row {
+        words: &[],
+        ..BAD_LINE
+    },
+    Row {
+        words: &["automaton"],
+        ..BAD_LINE
+    },
+    Row {
+        words: &["automata", "name"],
+        ..BAD_LINE
+    },
+    Row {
+        words: &["automaton", "name", "name"],
+        ..BAD_LINE
+    },
+    Row {
+        words: &["automaton", "--subsets", "0", "name"],
+        ..BAD_LINE
+    },
+    Row {
+        words: &["automaton", "--subsets", "4097", "name"],
+        ..BAD_LINE
+    },
+    Row {
+        words: &["automaton", "--subsets", "01", "name"],
+        ..BAD_LINE
+    },
+    Row {
+        words: &["automaton", "--subsets", "+5", "name"],
+        ..BAD_LINE
+    },
+    Row {
+        words: &["automaton", "--subsets", "5", "--subsets", "5", "name"],
+        ..BAD_LINE
+    },
+    Row {
+        words: &["automaton", "--colour", "1", "name"],
+        ..BAD_LINE
+    },
+    Row {
+        words: &["automaton", "--subsets", "5"],
+        ..BAD_LINE
+    },
+    Row {
+        words: &["automaton", "--subsets"],
+        ..BAD_LINE
+    },
+    Row {
+        words: &["automaton", "--nodes", "x", "name"],
+        ..BAD_LINE
+    },
+    Row {
+        words: &["automaton", "--workers", "65", "name"],
+        ..BAD_LINE
+    },
+];
+
+/// Runs that a file or a device ends.
+const FAULTS: [Row; 11] = [
+    Row {
+        words: &["automaton", "--", "-name"],
+        ..CANNOT_READ
+    },
+    Row {
+        words: &["automaton", "other"],
+        ..CANNOT_READ
+    },
+    Row {
+        failing_read: 2,
+        ..CANNOT_READ
+    },
+    Row {
+        file: "",
+        errs: "synmon: line 1 code 7\n",
+        ..REFUSED
+    },
+    Row {
+        file: "synmon 1",
+        errs: "synmon: line 2 code 7\n",
+        ..REFUSED
+    },
+    Row {
+        file: "synmon 1\nalphabet ab\nnfa 2\ninitial 0\nfi",
+        errs: "synmon: line 5 code 7\n",
+        ..REFUSED
+    },
+    Row {
+        file: "synmon 1\nalphabet ab\nexpr (ac)*\n",
+        errs: "synmon: line 3 code 8\n",
+        ..REFUSED
+    },
+    Row {
+        file: "synmon 1\nalphabet ab\nexpr a\nexpr b\n",
+        errs: "synmon: line 4 code 9\n",
+        ..REFUSED
+    },
+    Row {
+        failing_write: 1,
+        out: "automaton\n",
+        ..CANNOT_WRITE
+    },
+    Row {
+        out_room: 10,
+        out: "automaton\n",
+        ..CANNOT_WRITE
+    },
+    Row {
+        file: "",
+        errs_room: 12,
+        errs: "synmon: line",
+        ..REFUSED
+    },
+];
+
 fn check<R: Threads + Sync + Abort + AllocGlobal>(rt: &R, row: Row) -> Result<(), Fail> {
     let alloc = rt.alloc();
     let mut words = Vec::new(alloc);
@@ -94,224 +358,31 @@ fn check<R: Threads + Sync + Abort + AllocGlobal>(rt: &R, row: Row) -> Result<()
     Ok(())
 }
 
-#[test]
-fn runs_end_as_their_table_says(rt: HostRuntime) -> Result<(), Fail> {
-    let refused = Row {
-        status: 4,
-        out: "",
-        ..GOOD
-    };
-    let bad_line = Row {
-        status: 2,
-        out: "",
-        errs: "synmon: bad command line\n",
-        ..GOOD
-    };
-    let cannot_read = Row {
-        status: 3,
-        out: "",
-        errs: "synmon: cannot read\n",
-        ..GOOD
-    };
-    let cannot_write = Row {
-        status: 6,
-        errs: "synmon: cannot write\n",
-        ..GOOD
-    };
-    let rows = [
-        GOOD,
-        Row {
-            file: EVEN_AS,
-            out: EVEN_AS_TEXT,
-            ..GOOD
-        },
-        Row {
-            file: NO_WORD,
-            out: "automaton\nalphabet a\nstates 1\n0 1 out 0\n",
-            ..GOOD
-        },
-        Row {
-            file: FIVE_SETS,
-            ..GOOD
-        },
-        Row {
-            file: "synmon 1\nalphabet ab\nexpr (ab)*\n",
-            ..GOOD
-        },
-        Row {
-            file: "synmon 1\nalphabet ab\nexpr 0\n",
-            out: "automaton\nalphabet ab\nstates 1\n0 1 out 0 0\n",
-            ..GOOD
-        },
-        Row {
-            words: &["automaton", "--subsets", "3", "name"],
-            file: DEAD_SIGN,
-            out: "automaton\nalphabet ab\nstates 3\n0 1 out 1 2\n1 a out 1 1\n2 b in 1 1\n",
-            ..GOOD
-        },
-        Row {
-            words: &["automaton", "--subsets", "2", "name"],
-            file: DEAD_SIGN,
-            status: 5,
-            out: "",
-            errs: "synmon: limit subsets 2\n",
-            ..GOOD
-        },
-        Row {
-            words: &["automaton", "--subsets", "17", "name"],
-            file: FOURTH_LAST_A,
-            out: FOURTH_LAST_A_TEXT,
-            ..GOOD
-        },
-        Row {
-            words: &["automaton", "--subsets", "16", "name"],
-            file: FOURTH_LAST_A,
-            status: 5,
-            out: "",
-            errs: "synmon: limit subsets 16\n",
-            ..GOOD
-        },
-        Row {
-            words: &["automaton", "--subsets", "5", "name"],
-            file: FIVE_SETS,
-            ..GOOD
-        },
-        Row {
-            words: &["automaton", "--subsets", "4096", "name"],
-            file: FIVE_SETS,
-            ..GOOD
-        },
-        Row {
-            words: &["automaton", "--subsets", "4", "name"],
-            file: FIVE_SETS,
-            status: 5,
-            out: "",
-            errs: "synmon: limit subsets 4\n",
-            ..GOOD
-        },
-        Row {
-            words: &[],
-            ..bad_line
-        },
-        Row {
-            words: &["automaton"],
-            ..bad_line
-        },
-        Row {
-            words: &["automata", "name"],
-            ..bad_line
-        },
-        Row {
-            words: &["automaton", "name", "name"],
-            ..bad_line
-        },
-        Row {
-            words: &["automaton", "--subsets", "0", "name"],
-            ..bad_line
-        },
-        Row {
-            words: &["automaton", "--subsets", "4097", "name"],
-            ..bad_line
-        },
-        Row {
-            words: &["automaton", "--subsets", "01", "name"],
-            ..bad_line
-        },
-        Row {
-            words: &["automaton", "--subsets", "+5", "name"],
-            ..bad_line
-        },
-        Row {
-            words: &["automaton", "--subsets", "5", "--subsets", "5", "name"],
-            ..bad_line
-        },
-        Row {
-            words: &["automaton", "--colour", "1", "name"],
-            ..bad_line
-        },
-        Row {
-            words: &["automaton", "--subsets", "5"],
-            ..bad_line
-        },
-        Row {
-            words: &["automaton", "--subsets"],
-            ..bad_line
-        },
-        Row {
-            words: &["automaton", "--nodes", "x", "name"],
-            ..bad_line
-        },
-        Row {
-            words: &["automaton", "--workers", "65", "name"],
-            ..bad_line
-        },
-        Row {
-            words: &["automaton", "--subsets=5", "name"],
-            file: FIVE_SETS,
-            ..GOOD
-        },
-        Row {
-            words: &["--workers", "64", "automaton", "name", "--level", "12"],
-            ..GOOD
-        },
-        Row {
-            words: &["automaton", "--", "-name"],
-            ..cannot_read
-        },
-        Row {
-            words: &["automaton", "other"],
-            ..cannot_read
-        },
-        Row {
-            failing_read: 2,
-            ..cannot_read
-        },
-        Row {
-            file: "",
-            errs: "synmon: line 1 code 7\n",
-            ..refused
-        },
-        Row {
-            file: "synmon 1",
-            errs: "synmon: line 2 code 7\n",
-            ..refused
-        },
-        Row {
-            file: "synmon 1\nalphabet ab\nnfa 2\ninitial 0\nfi",
-            errs: "synmon: line 5 code 7\n",
-            ..refused
-        },
-        Row {
-            file: "synmon 1\nalphabet ab\nexpr (ac)*\n",
-            errs: "synmon: line 3 code 8\n",
-            ..refused
-        },
-        Row {
-            file: "synmon 1\nalphabet ab\nexpr a\nexpr b\n",
-            errs: "synmon: line 4 code 9\n",
-            ..refused
-        },
-        Row {
-            failing_write: 1,
-            out: "automaton\n",
-            ..cannot_write
-        },
-        Row {
-            out_room: 10,
-            out: "automaton\n",
-            ..cannot_write
-        },
-        Row {
-            file: "",
-            errs_room: 12,
-            errs: "synmon: line",
-            ..refused
-        },
-    ];
+fn check_all<R: Threads + Sync + Abort + AllocGlobal>(rt: &R, rows: &[Row]) -> Result<(), Fail> {
     for row in rows {
-        check(&rt, row)?;
+        check(rt, *row)?;
     }
     Ok(())
+}
+
+#[test]
+fn whole_texts_are_written(rt: HostRuntime) -> Result<(), Fail> {
+    check_all(&rt, &TEXTS)
+}
+
+#[test]
+fn counts_stop_runs(rt: HostRuntime) -> Result<(), Fail> {
+    check_all(&rt, &STOPS)
+}
+
+#[test]
+fn other_words_are_bad_lines(rt: HostRuntime) -> Result<(), Fail> {
+    check_all(&rt, &BAD_LINES)
+}
+
+#[test]
+fn files_and_devices_end_runs(rt: HostRuntime) -> Result<(), Fail> {
+    check_all(&rt, &FAULTS)
 }
 
 #[test]

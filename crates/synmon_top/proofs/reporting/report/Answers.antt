@@ -1,11 +1,15 @@
-use Rattle.std.proofs.Common.{◌≡◌, ◌∙◌, List, ℕ, sym, ap, subst, rules}
-use Rattle.std.specs.Io.KnownBytes.{Appends}
+use Rattle.std.proofs.Common.{◌≡◌, List, ℕ, Option, Some, refl, rules}
+use Rattle.std.specs.Prelude.{All}
+use Rattle.language_theory.specs.Congruence.{Syntactic}
+use Rattle.language_theory.specs.Nerode.{accepted}
+use Rattle.language_theory.specs.Representatives.{HasMoreClasses}
 use Rattle.automaton_file.specs.FileText.{source_text, IsRefusal}
-use Rattle.synmon_top.specs.Reports.{HasMoreSubsets}
-use Rattle.synmon_top.specs.Answers.{Values, said_of_all}
-use Rattle.synmon_top.specs.Outcome.{IsGivenPrefix}
-use Rattle.synmon_top.specs.declared.answers.Answer.{Answer}
-use Rattle.synmon_top.proofs.Outcomes.{ends_refused, ends_stopped, ends_whole, ends_limited, ends_cut, ends_short, report_of_answers}
+use Rattle.synmon_top.specs.Sections.{limits_of}
+use Rattle.synmon_top.specs.Reports.{HasMoreSubsets, NeedsElements}
+use Rattle.synmon_top.specs.Answers.{Values}
+use Rattle.synmon_top.specs.declared.ending.Stop.TheVariants as stop
+use Rattle.synmon_top.proofs.Elements.{monoid_of_source, many_elements, few_elements, from_some, some_there}
+use Rattle.synmon_top.proofs.Outcomes.{ends_refused, ends_stopped, needs_there}
 use Rattle.synmon_top.proofs.reporting.report.Goals as goal
 
 pub returns-in-Err-Refused-clause-ends : goal.returns-in-Err-Refused-clause-ends
@@ -16,62 +20,53 @@ returns-in-Err-Refused-clause-ends g c =
 
 pub returns-in-Err-SubsetLimit-clause-ends : goal.returns-in-Err-SubsetLimit-clause-ends
 returns-in-Err-SubsetLimit-clause-ends g c =
-    let more : HasMoreSubsets (source_text c.in-Ok.source) c.args.request.now.subsets =
+    let r = c.args.request.now in
+    let source = source_text c.in-Ok.source in
+    let more : HasMoreSubsets source r.subsets = search rules in
+    ends_stopped _ r source (stop.Subsets r.subsets) _ c.in-Ok.ensures.ok (refl, more)
+
+pub returns-in-Err-ElementLimit-clause-ends : goal.returns-in-Err-ElementLimit-clause-ends
+returns-in-Err-ElementLimit-clause-ends g c =
+    let r = c.args.request.now in
+    let source = source_text c.in-Ok.source in
+    let d = c.in-Ok-minimal_of.dfa in
+    let needed : NeedsElements r.command = search rules in
+    let more : HasMoreClasses d.graph.letters (Syntactic d.graph.letters (accepted d)) r.elements =
     search rules in
-    ends_stopped _ c.args.request.now (source_text c.in-Ok.source) _ c.in-Ok.ensures.ok more
+    ends_stopped _ r source (stop.Elements r.elements) _ c.in-Ok.ensures.ok (
+      needed,
+      c.in-Ok-minimal_of.ensures.few,
+      refl,
+      many_elements source d r.elements c.in-Ok-minimal_of.ensures.minimal more,
+    )
 
-pub returns-in-Ok-print-clause-ends : goal.returns-in-Ok-print-clause-ends
-returns-in-Ok-print-clause-ends g c =
-    let v : Values =
-    record { source = source_text c.in-Ok.source; automaton = c.in-Ok-minimal_of.dfa } in
-    let on = report_of_answers c.args.bytes.now c.args.request.now v _
-    c.in-Ok-answer_sections.answers.items c.in-Ok.ensures.ok
-    c.in-Ok-minimal_of.ensures.few c.sections_of.ensures c.in-Ok-answer_sections.ensures in
-    ends_limited _ _ (said_of_all v c.in-Ok-answer_sections.answers.items) _ _ on
-    (ap (λ (answers : List Answer). (said_of_all v answers).limited)
-    (sym c.as_slice-all.ensures.value) ∙ sym c.have_limit.ensures ∙ c.if-have_limit.true)
-    (let P : List Answer → Type 0 = λ answers.
-    Appends (g.O.Sink.written c.args.out.now) (g.O.Sink.written c.print.new.out)
-    (said_of_all v answers).text in
-    subst P c.as_slice-all.ensures.value c.in-Ok-print.ensures.whole)
+pub write_sections-requires-clause-values : goal.write_sections-requires-clause-values
+write_sections-requires-clause-values g c = record {
+  minimal = c.in-Ok-minimal_of.ensures.minimal;
+  syntactic = λ m there.
+      monoid_of_source (source_text c.in-Ok.source) c.in-Ok-minimal_of.dfa m
+      c.in-Ok-minimal_of.ensures.minimal
+      (from_some _ c.in-Ok-monoid_of.monoid m c.in-Ok-monoid_of.ensures.syntactic there);
+}
 
-pub returns-in-Ok-2-clause-ends : goal.returns-in-Ok-2-clause-ends
-returns-in-Ok-2-clause-ends g c =
-    let v : Values =
-    record { source = source_text c.in-Ok.source; automaton = c.in-Ok-minimal_of.dfa } in
-    let on = report_of_answers c.args.bytes.now c.args.request.now v _
-    c.in-Ok-answer_sections.answers.items c.in-Ok.ensures.ok
-    c.in-Ok-minimal_of.ensures.few c.sections_of.ensures c.in-Ok-answer_sections.ensures in
-    ends_whole _ _ (said_of_all v c.in-Ok-answer_sections.answers.items) _ _ on
-    (ap (λ (answers : List Answer). (said_of_all v answers).limited)
-    (sym c.as_slice-all.ensures.value) ∙ sym c.have_limit.ensures ∙ c.if-have_limit.false)
-    (let P : List Answer → Type 0 = λ answers.
-    Appends (g.O.Sink.written c.args.out.now) (g.O.Sink.written c.print.new.out)
-    (said_of_all v answers).text in
-    subst P c.as_slice-all.ensures.value c.in-Ok-2.ensures.whole)
-
-pub returns-in-Err-Write-clause-ends : goal.returns-in-Err-Write-clause-ends
-returns-in-Err-Write-clause-ends g c =
-    let v : Values =
-    record { source = source_text c.in-Ok.source; automaton = c.in-Ok-minimal_of.dfa } in
-    let on = report_of_answers c.args.bytes.now c.args.request.now v _
-    c.in-Ok-answer_sections.answers.items c.in-Ok.ensures.ok
-    c.in-Ok-minimal_of.ensures.few c.sections_of.ensures c.in-Ok-answer_sections.ensures in
-    ends_cut _ _ (said_of_all v c.in-Ok-answer_sections.answers.items) _ _ on
-    (let P : List Answer → Type 0 = λ answers.
-    IsGivenPrefix (g.O.Sink.written c.args.out.now) (g.O.Sink.written c.print.new.out)
-    (said_of_all v answers).text in
-    subst P c.as_slice-all.ensures.value c.in-Err-Write.ensures.cut)
+pub write_sections-requires-clause-needs : goal.write_sections-requires-clause-needs
+write_sections-requires-clause-needs g c =
+    let v : Values = record {
+      limits = limits_of c.args.request.now;
+      source = source_text c.in-Ok.source;
+      automaton = c.in-Ok-minimal_of.dfa;
+      monoid = c.in-Ok-monoid_of.monoid;
+    } in
+    needs_there c.args.request.now.command v
+    (λ needs. some_there c.in-Ok-monoid_of.monoid (c.in-Ok-monoid_of.ensures.there needs))
 
 pub returns-clause-ends : goal.returns-clause-ends
 returns-clause-ends g c =
-    let v : Values =
-    record { source = source_text c.in-Ok.source; automaton = c.in-Ok-minimal_of.dfa } in
-    let on = report_of_answers c.args.bytes.now c.args.request.now v _
-    c.in-Ok-answer_sections.answers.items c.in-Ok.ensures.ok
-    c.in-Ok-minimal_of.ensures.few c.sections_of.ensures c.in-Ok-answer_sections.ensures in
-    ends_short _ _ (said_of_all v c.in-Ok-answer_sections.answers.items) _ _ on
-    (let P : List Answer → Type 0 = λ answers.
-    IsGivenPrefix (g.O.Sink.written c.args.out.now) (g.O.Sink.written c.print.new.out)
-    (said_of_all v answers).text in
-    subst P c.as_slice-all.ensures.value c.in-Err-Memory-print.ensures.cut)
+    let r = c.args.request.now in
+    let source = source_text c.in-Ok.source in
+    c.write_sections.ensures.ends c.args.bytes.now c.in-Ok.ensures.ok (record {
+      subsets = c.in-Ok-minimal_of.ensures.few;
+      elements = λ needs.
+          few_elements source c.in-Ok-minimal_of.dfa r.elements
+          c.in-Ok-minimal_of.ensures.minimal (c.in-Ok-monoid_of.ensures.few needs);
+    })
