@@ -1,0 +1,14 @@
+pub mod Mates
+pub mod Paths
+pub mod Noting
+pub mod Rows
+pub mod Labels
+pub mod Gathering
+pub mod Rising
+pub mod Numbers
+pub mod Parts
+pub mod Laying
+pub mod Diagram
+pub mod EggBoxLaws
+pub mod OneDiagram
+pub mod AgreeingClasses

@@ -1,0 +1,6 @@
+pub mod GreenClasses
+pub mod EggBoxes
+pub mod Classes
+pub mod Pairs
+pub mod Numbering
+pub mod Layout

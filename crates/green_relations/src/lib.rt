@@ -1,0 +1,15 @@
+//! Green's relations of a finite monoid, and its egg-box diagram.
+#![tactic(auto)]
+
+mod boxes;
+mod classes;
+pub mod laws;
+mod listing;
+mod numbering;
+mod pairs;
+mod tables;
+#[cfg(test)]
+mod tests;
+
+pub use boxes::{Boxes, boxes_of};
+pub use classes::{Green, green_of};
