@@ -16,12 +16,14 @@ use Rattle.command_line.specs.Line.{IsTaken, IsLine, IsNumberIn, AreNumbersIn, I
 
 -- the command with a word
 named : List ℕ → Command
-named word = cond (bytes_eq word (codes "monoid")) command.Monoid command.Automaton
+named word = cond (bytes_eq word (codes "monoid")) command.Monoid
+    (cond (bytes_eq word (codes "table")) command.Table command.Automaton)
 
 named-word : (c : Command) → named (command_word c) ≡ c
 unfolding named
 named-word command.Automaton = refl
 named-word command.Monoid = refl
+named-word command.Table = refl
 
 -- the word of a command is no other's
 one_command : (c d : Command) → command_word c ≡ command_word d → c ≡ d

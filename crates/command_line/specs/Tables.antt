@@ -34,3 +34,4 @@ option_at place = slice_index_or options place (row [] 0 0 0)
 abbrev pub command_word : Command → List ℕ
 command_word command.Automaton = codes "automaton"
 command_word command.Monoid = codes "monoid"
+command_word command.Table = codes "table"

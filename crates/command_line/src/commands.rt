@@ -9,6 +9,8 @@ pub enum Command {
     Automaton,
     /// The elements of the syntactic monoid and their rules.
     Monoid,
+    /// The products of all elements.
+    Table,
 }
 
 /// The command with a word.
@@ -19,6 +21,7 @@ pub(crate) fn command_of(word: &str) -> Option<Command>
     match word.as_bytes() {
         b"automaton" => Some(Command::Automaton),
         b"monoid" => Some(Command::Monoid),
+        b"table" => Some(Command::Table),
         _ => None,
     }
 }

@@ -2,3 +2,4 @@ pub mod Texts
 pub mod Saying
 pub mod AutomatonSection
 pub mod MonoidSection
+pub mod TableSection

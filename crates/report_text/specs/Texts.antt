@@ -8,6 +8,16 @@ abbrev pub texts_below : (ℕ → List ℕ) → ℕ → List ℕ
 texts_below text zero = []
 texts_below text (suc n) = texts_below text n ++ text n
 
+-- what stands before a text of which n are before it: nothing before the first one
+abbrev pub gap_before : List ℕ → ℕ → List ℕ
+gap_before gap zero = []
+gap_before gap (suc n) = gap
+
+-- the texts of 0, 1, .., n - 1, with a gap between each two
+abbrev pub separated : List ℕ → (ℕ → List ℕ) → ℕ → List ℕ
+separated gap text zero = []
+separated gap text (suc n) = separated gap text n ++ gap_before gap n ++ text n
+
 -- the numbers that belong to 0, 1, .., n - 1, each behind a blank
 abbrev pub numbers_below : (ℕ → ℕ) → ℕ → List ℕ
 numbers_below number n = texts_below (λ i. codes " " ++ decimal (number i)) n

@@ -5,9 +5,11 @@ mod automaton_section;
 mod buffer;
 mod monoid_section;
 mod rendering;
+mod table_section;
 #[cfg(test)]
 mod tests;
 
 pub use automaton_section::say_automaton;
 pub use buffer::{Buffer, SayFault, flush, say};
 pub use monoid_section::say_monoid;
+pub use table_section::say_table;

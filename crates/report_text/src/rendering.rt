@@ -1,7 +1,7 @@
 //! The parts of a line, each put behind a text.
 ghost use Rattle.std.specs.Prelude.{◌≡◌, ◌<◌, ◌++◌, length, decimal, OnOk};
 ghost use Rattle.language_theory.specs.Words.{Over};
-ghost use Rattle.report_text.specs.Texts.{letter_text, letters_text, word_text, membership_text};
+ghost use Rattle.report_text.specs.Texts.{letter_text, letters_text, word_text, membership_text, gap_before};
 
 use syn_words::{Alphabet, Memory, Word};
 
@@ -57,4 +57,14 @@ pub(crate) fn push_membership(text: &mut Vec<u8>, is_in: bool) -> Result<(), Mem
     ensures { OnOk result (text.new.items ≡ text.old.items ++ membership_text is_in) }
 {
     push_bytes(text, if is_in { b"in" } else { b"out" })
+}
+
+/// Puts a gap behind a text, unless what follows is the first of several.
+pub(crate) fn push_gap(text: &mut Vec<u8>, gap: &[u8], place: u32) -> Result<(), Memory>
+    ensures { OnOk result (text.new.items ≡ text.old.items ++ gap_before gap.now place) }
+{
+    if place == 0 {
+        return Ok(());
+    }
+    push_bytes(text, gap)
 }

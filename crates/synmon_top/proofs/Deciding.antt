@@ -2,6 +2,7 @@
 -- memory.
 use Rattle.std.proofs.Common.{◌≡◌, ◌⊎◌, ℕ, Bool, true, false, cond, List, [], ◌∷◌, Option, Some, None, inl, inr, refl, sym, ap, ◌∙◌, subst, length, map}
 use Rattle.std.specs.Prelude.{◌↔◌, ⊤}
+use Rattle.language_theory.specs.Congruence.{Syntactic}
 use Rattle.language_theory.proofs.Minimal.{one_minimal}
 use Rattle.syn_outside.specs.NamedFiles.{NamedFiles, bytes_of}
 use Rattle.automaton_file.specs.FileText.{SourceText, IsSource, IsRefusal, language_of}
@@ -15,7 +16,7 @@ use Rattle.report_text.specs.AutomatonSection.{automaton_text}
 use Rattle.report_text.specs.MonoidSection.{monoid_text}
 use Rattle.synmon_top.specs.declared.sections.Section.{Section}
 use Rattle.synmon_top.specs.declared.sections.Section.TheVariants as section
-use Rattle.synmon_top.specs.Sections.{Limits, limits_of, Said, joined, sections_of, IsSection, AreSections, AreSaid, IsAutomatonSection}
+use Rattle.synmon_top.specs.Sections.{Limits, limits_of, Said, joined, sections_of, IsSection, AreSections, AreSaid, IsAutomatonSection, IsTableWithin}
 use Rattle.synmon_top.specs.Reports.{Task, task_of, HasMoreSubsets, IsStop, Verdict, said, stopped, refused, IsReportOn, IsStopOn, IsVerdict}
 use Rattle.synmon_top.specs.Outcome.{AreBytesOf, IsDue, Outcome, IsDecided}
 use Rattle.synmon_top.specs.declared.ending.Ending.{Ending}
@@ -23,6 +24,7 @@ use Rattle.synmon_top.specs.declared.ending.Ending.TheVariants as ending
 use Rattle.synmon_top.specs.declared.ending.Stop.{Stop}
 use Rattle.synmon_top.specs.declared.ending.Stop.TheVariants as stop
 use Rattle.synmon_top.proofs.Elements.{rules_are_one_too}
+use Rattle.synmon_top.proofs.Tables.{one_section_text, one_limit}
 use Rattle.synmon_top.proofs.Outcomes.{outcome-along}
 
 same_said : (p q : Said) → p.text ≡ q.text → p.limited ≡ q.limited → p ≡ q
@@ -46,6 +48,16 @@ one_section section.Monoid limits signs L p q h k =
     (h.text ∙ ap (λ (m : SyntacticMonoid). monoid_text signs m h.rules) monoid
     ∙ ap (monoid_text signs k.monoid) rules ∙ sym k.text)
     (h.unlimited ∙ sym k.unlimited)
+one_section section.Table limits signs L p q h k =
+    let monoid = monoids_are_one (length signs) L h.monoid k.monoid h.syntactic k.syntactic in
+    let P : SyntacticMonoid → Type 0 = λ m.
+    IsTableWithin limits.table (Syntactic (length signs) L) m.graphs.words h.table in
+    let products = subst P monoid h.products in
+    same_said p q
+    (h.text ∙ one_section_text (Syntactic (length signs) L) k.monoid.graphs.words limits.table
+    h.table k.table products k.products ∙ sym k.text)
+    (h.limited ∙ one_limit (Syntactic (length signs) L) k.monoid.graphs.words limits.table
+    h.table k.table products k.products ∙ sym k.limited)
 
 all_sections : (sections : List Section) (limits : Limits) (signs : List ℕ) (L : List ℕ → Type 0)
     (p q : List Said)

@@ -16,13 +16,13 @@ use Rattle.command_line.specs.Line.{IsLine, IsAccepted, IsFaultOf}
 use Rattle.command_line.proofs.Lines.{line_without_fault}
 use Rattle.synmon_top.specs.Sections.{Limits, Said, sections_of, limits_of, AreSections, AreSaid}
 use Rattle.syntactic_monoid.specs.SyntacticMonoid.{SyntacticMonoid}
-use Rattle.synmon_top.specs.Answers.{Values, HasNeeds, said_of, said_of_all}
+use Rattle.synmon_top.specs.Answers.{Values, HasNeeds, HasTable, said_of, said_of_all}
 use Rattle.report_text.specs.Saying.{Channel, IsSaid, IsBrokenOff}
 use Rattle.report_text.proofs.Channels.{broken-after}
 use Rattle.synmon_top.specs.declared.sections.Section.{Section}
 use Rattle.synmon_top.specs.declared.sections.Section.TheVariants as section
 use Rattle.synmon_top.specs.declared.answers.Answer.{Answer}
-use Rattle.synmon_top.specs.Reports.{Task, task_of, HasMoreSubsets, HasMoreElements, NeedsElements, IsWithin, IsStop, Verdict, said, stopped, refused, IsReportOn, IsVerdict}
+use Rattle.synmon_top.specs.Reports.{Task, task_of, HasMoreSubsets, HasMoreElements, NeedsElements, NeedsTable, IsWithin, IsStop, Verdict, said, stopped, refused, IsReportOn, IsVerdict}
 use Rattle.synmon_top.specs.Outcome.{AreBytesOf, IsDue, BeginsDue, IsGivenPrefix, Outcome, EndsOn, Ends, ending_of_fault}
 use Rattle.synmon_top.specs.declared.ending.Ending.{Ending}
 use Rattle.synmon_top.specs.declared.ending.Ending.TheVariants as ending
@@ -39,9 +39,19 @@ unstopped request source within (stop.Elements n) (needs, few, same, more) =
 -- where the monoid is there if the command needs it, the sections of the command have what they need
 pub needs_there : (c : Command) (v : Values)
     → (NeedsElements c → (m : SyntacticMonoid) × (v.monoid ≡ Some m))
-    → All (HasNeeds v) (sections_of c)
-needs_there command.Automaton v there = All-cons (HasNeeds v) section.Automaton [] tt (All-nil (HasNeeds v))
-needs_there command.Monoid v there = All-cons (HasNeeds v) section.Monoid [] (there tt) (All-nil (HasNeeds v))
+    → (NeedsTable c → HasTable v) → All (HasNeeds v) (sections_of c)
+needs_there command.Automaton v monoid table =
+    All-cons (HasNeeds v) section.Automaton [] tt (All-nil (HasNeeds v))
+needs_there command.Monoid v monoid table =
+    All-cons (HasNeeds v) section.Monoid [] (monoid tt) (All-nil (HasNeeds v))
+needs_there command.Table v monoid table =
+    All-cons (HasNeeds v) section.Table [] (table tt) (All-nil (HasNeeds v))
+
+-- a table is made of the elements
+pub table_needs_elements : (c : Command) → NeedsTable c → NeedsElements c
+table_needs_elements command.Automaton needs = absurd needs
+table_needs_elements command.Monoid needs = absurd needs
+table_needs_elements command.Table needs = tt
 
 -- what the sections say about a source that nothing stops
 pub report_on : (bytes : List ℕ) (request : Request) (source : SourceText) (text : Said)

@@ -1,13 +1,15 @@
 -- The values that are computed for a request, and the text of an answer.
-use Rattle.std.specs.Prelude.{◌≡◌, ℕ, Bool, false, List, length, map, All, [], Option, Some, None, ⊤}
+use Rattle.std.specs.Prelude.{◌≡◌, ℕ, Bool, false, List, length, map, All, [], Option, Some, None, is_none, ⊤}
 use Rattle.language_theory.specs.Nerode.{MinimalAutomaton, IsMinimal}
 use Rattle.language_theory.specs.ShortlexGraph.{SameNode}
 use Rattle.monoid_theory.specs.Presentation.{AreRules}
 use Rattle.syntactic_monoid.specs.SyntacticMonoid.{SyntacticMonoid, IsSyntacticMonoid}
 use Rattle.automaton_file.specs.FileText.{SourceText, source_text, language_of}
 use Rattle.report_text.specs.AutomatonSection.{automaton_text}
+use Rattle.parallel_table.specs.ProductTables.{ProductTable}
 use Rattle.report_text.specs.MonoidSection.{monoid_text}
-use Rattle.synmon_top.specs.Sections.{Limits, limits_of, Said, joined}
+use Rattle.report_text.specs.TableSection.{section_text}
+use Rattle.synmon_top.specs.Sections.{Limits, limits_of, Said, joined, IsTableWithin}
 use Rattle.synmon_top.specs.declared.sections.Section.{Section}
 use Rattle.synmon_top.specs.declared.sections.Section.TheVariants as section
 use Rattle.synmon_top.specs.declared.answers.Values as code
@@ -15,12 +17,14 @@ use Rattle.synmon_top.specs.declared.answers.Answer.{Answer}
 use Rattle.synmon_top.specs.declared.answers.Answer.TheVariants as answer
 
 -- what is computed once for the sections of a request: its limits, a source, its minimal automaton,
--- and its syntactic monoid if the command needs it
+-- its syntactic monoid if the command needs it, and the table of its products if the command needs
+-- it and the monoid is within the limit
 pub record Values : Type 0 where
   pub limits : Limits
   pub source : SourceText
   pub automaton : MinimalAutomaton
   pub monoid : Option SyntacticMonoid
+  pub table : Option ProductTable
 
 -- what the code lends to the sections, as values
 abbrev pub values_of : code.Values → Values
@@ -29,6 +33,7 @@ values_of v = record {
   source = source_text v.source.now;
   automaton = v.dfa.now;
   monoid = v.monoid.now;
+  table = v.table.now;
 }
 
 -- the values are those of the source's language
@@ -37,10 +42,17 @@ pub record AreValues (v : Values) : Type 0 where
   pub syntactic : (m : SyntacticMonoid) → v.monoid ≡ Some m
       → IsSyntacticMonoid (length v.source.letters) (language_of v.source) m
 
+-- the monoid is there, and the table of its products, or none where it is above the limit
+pub record HasTable (v : Values) : Type 0 where
+  pub monoid : SyntacticMonoid
+  pub there : v.monoid ≡ Some monoid
+  pub table : IsTableWithin v.limits.table (SameNode monoid.graphs.right) monoid.graphs.words v.table
+
 -- what the section needs is there
 abbrev pub HasNeeds : Values → Section → Type 0
 HasNeeds v section.Automaton = ⊤
 HasNeeds v section.Monoid = (m : SyntacticMonoid) × (v.monoid ≡ Some m)
+HasNeeds v section.Table = HasTable v
 
 -- what the section `monoid` says: nothing where the monoid is not there
 abbrev pub text_with : List ℕ → List (List ℕ × ℕ) → Option SyntacticMonoid → List ℕ
@@ -56,6 +68,8 @@ abbrev pub said_of : Values → Answer → Said
 said_of v answer.Automaton =
     record { text = automaton_text v.source.letters v.automaton; limited = false }
 said_of v (answer.Monoid rules) = monoid_said v rules
+said_of v answer.Table =
+    record { text = section_text v.table v.limits.table; limited = is_none v.table }
 
 -- the monoid is there, over the letters of the source, and the rules are its own
 pub record ArePresented (v : Values) (rules : List (List ℕ × ℕ)) : Type 0 where
@@ -69,6 +83,7 @@ pub record ArePresented (v : Values) (rules : List (List ℕ × ℕ)) : Type 0 w
 abbrev pub IsSayable : Values → Answer → Type 0
 IsSayable v answer.Automaton = ⊤
 IsSayable v (answer.Monoid rules) = ArePresented v rules
+IsSayable v answer.Table = ⊤
 
 -- what the sections of several answers say, one after another
 abbrev pub said_of_all : Values → List Answer → Said

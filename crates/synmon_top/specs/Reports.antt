@@ -35,6 +35,13 @@ HasMoreElements source n = HasMoreClasses (length source.letters)
 abbrev pub NeedsElements : Command → Type 0
 NeedsElements command.Automaton = ⊥
 NeedsElements command.Monoid = ⊤
+NeedsElements command.Table = ⊤
+
+-- the command needs the table of products
+abbrev pub NeedsTable : Command → Type 0
+NeedsTable command.Automaton = ⊥
+NeedsTable command.Monoid = ⊥
+NeedsTable command.Table = ⊤
 
 -- a source is within the limits of a request's counts
 pub record IsWithin (request : Request) (source : SourceText) : Type 0 where

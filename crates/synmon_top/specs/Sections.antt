@@ -1,15 +1,18 @@
 -- The sections of a report: which sections a command prints, and what each says about a language.
-use Rattle.std.specs.Prelude.{◌≡◌, ℕ, Bool, true, false, List, [], ◌∷◌, ⊤, length}
+use Rattle.std.specs.Prelude.{◌≡◌, ◌<◌, ◌≤◌, ℕ, Bool, true, false, List, [], ◌∷◌, Option, Some, None, is_none, ⊤, length}
 use Rattle.std.specs.List.{flat_map, list_any}
 use Rattle.language_theory.specs.Congruence.{Syntactic}
 use Rattle.language_theory.specs.Nerode.{MinimalAutomaton, IsMinimal}
 use Rattle.monoid_theory.specs.Presentation.{AreRules}
+use Rattle.monoid_theory.specs.Products.{IsProduct}
+use Rattle.parallel_table.specs.ProductTables.{ProductTable, cell}
 use Rattle.syntactic_monoid.specs.SyntacticMonoid.{SyntacticMonoid, IsSyntacticMonoid}
 use Rattle.command_line.specs.declared.commands.Command.{Command}
 use Rattle.command_line.specs.declared.commands.Command.TheVariants as command
 use Rattle.command_line.specs.declared.request.Request.{Request}
 use Rattle.report_text.specs.AutomatonSection.{automaton_text}
 use Rattle.report_text.specs.MonoidSection.{monoid_text}
+use Rattle.report_text.specs.TableSection.{section_text}
 use Rattle.synmon_top.specs.declared.sections.Section.{Section}
 use Rattle.synmon_top.specs.declared.sections.Section.TheVariants as section
 
@@ -38,6 +41,7 @@ limits_of r = record {
 abbrev pub sections_of : Command → List Section
 sections_of command.Automaton = section.Automaton ∷ []
 sections_of command.Monoid = section.Monoid ∷ []
+sections_of command.Table = section.Table ∷ []
 
 -- what a section says: its text, and whether the answer that it tells is a limit
 pub record Said : Type 0 where
@@ -61,11 +65,35 @@ pub record IsMonoidSection (signs : List ℕ) (L : List ℕ → Type 0) (said : 
   pub text : said.text ≡ monoid_text signs monoid rules
   pub unlimited : said.limited ≡ false
 
+-- the table has the products of the classes of a relation that have these representatives
+pub record AreProducts (same : List ℕ → List ℕ → Type 0) (words : List (List ℕ))
+    (t : ProductTable) : Type 0 where
+  pub side : t.side ≡ length words
+  pub each : (i j : ℕ) → i < t.side → j < t.side → IsProduct same words i j (cell t i j)
+
+-- a table of all products, or none where there are more elements than the limit
+abbrev pub IsTableWithin : ℕ → (List ℕ → List ℕ → Type 0) → List (List ℕ) → Option ProductTable
+    → Type 0
+IsTableWithin most same words None = most < length words
+IsTableWithin most same words (Some t) = (length words ≤ most) × AreProducts same words t
+
+-- The section `table`: all products in the syntactic monoid, or that it has more elements than the
+-- limit.
+pub record IsTableSection (most : ℕ) (signs : List ℕ) (L : List ℕ → Type 0) (said : Said) : Type 0
+  where
+    pub monoid : SyntacticMonoid
+    pub syntactic : IsSyntacticMonoid (length signs) L monoid
+    pub table : Option ProductTable
+    pub products : IsTableWithin most (Syntactic (length signs) L) monoid.graphs.words table
+    pub text : said.text ≡ section_text table most
+    pub limited : said.limited ≡ is_none table
+
 -- The table of sections: what each says about the language L over the letters with these signs,
 -- within the limits.
 abbrev pub IsSection : Section → Limits → List ℕ → (List ℕ → Type 0) → Said → Type 0
 IsSection section.Automaton limits signs L said = IsAutomatonSection signs L said
 IsSection section.Monoid limits signs L said = IsMonoidSection signs L said
+IsSection section.Table limits signs L said = IsTableSection limits.table signs L said
 
 -- what each of these sections says, one after another
 abbrev pub AreSections : List Section → Limits → List ℕ → (List ℕ → Type 0) → List Said → Type 0

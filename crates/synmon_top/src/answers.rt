@@ -8,8 +8,9 @@ ghost use Rattle.synmon_top.specs.Answers.{AreValues, HasNeeds, IsSayable, ArePr
 use crate::sections::Section;
 use automaton_file::Source;
 use command_line::Request;
+use parallel_table::Table;
 use presentation::{Rules, rules_of};
-use report_text::{Buffer, SayFault, say_automaton, say_monoid};
+use report_text::{Buffer, SayFault, say_automaton, say_monoid, say_table};
 use std::alloc::Global;
 use subset_minimal::MinDfa;
 use syn_outside::Sink;
@@ -27,6 +28,8 @@ pub(crate) struct Values<'a> {
     pub(crate) dfa: &'a MinDfa,
     /// The syntactic monoid of its language, if the command needs it.
     pub(crate) monoid: &'a Option<Syntactic>,
+    /// The table of its products, if the command needs it and it is within its limit.
+    pub(crate) table: &'a Option<Table>,
 }
 
 /// What a section has to tell.
@@ -36,6 +39,8 @@ pub enum Answer {
     Automaton,
     /// The elements of the syntactic monoid, and its rules.
     Monoid(Rules),
+    /// The products of all elements, or that there are more than the limit.
+    Table,
 }
 
 impl Answer {
@@ -45,6 +50,7 @@ impl Answer {
     {
         match self {
             Answer::Automaton | Answer::Monoid(_) => false,
+            Answer::Table => values.table.is_none(),
         }
     }
 }
@@ -83,6 +89,7 @@ fn answer_section(alloc: Global, section: Section, values: &Values<'_>) -> Resul
     match section {
         Section::Automaton => Ok(Answer::Automaton),
         Section::Monoid => answer_monoid(alloc, values),
+        Section::Table => Ok(Answer::Table),
     }
 }
 
@@ -159,6 +166,13 @@ fn say_answer<S: Sink>(
             values.dfa,
         ),
         Answer::Monoid(rules) => say_rules_of(alloc, sink, buffer, values, rules),
+        Answer::Table => say_table(
+            alloc,
+            sink,
+            buffer,
+            values.table.as_ref(),
+            values.request.table,
+        ),
     }
 }
 

@@ -4,25 +4,29 @@ ghost use Rattle.std.specs.Io.KnownBytes.{Appends};
 ghost use Rattle.language_theory.specs.Congruence.{Syntactic as SyntacticCongruence};
 ghost use Rattle.language_theory.specs.Nerode.{IsMinimal, accepted};
 ghost use Rattle.language_theory.specs.Representatives.{HasMoreClasses};
+ghost use Rattle.language_theory.specs.ShortlexGraph.{SameNode};
 ghost use Rattle.syn_outside.specs.Counts.{Rose};
 ghost use Rattle.automaton_file.specs.FileText.{source_text, body_text, language_of, IsSource, IsSoundSource, CanBuild};
 ghost use Rattle.command_line.specs.Line.{IsInRange};
 ghost use Rattle.syntactic_monoid.specs.SyntacticMonoid.{IsSyntacticMonoid};
-ghost use Rattle.synmon_top.specs.Sections.{sections_of};
+ghost use Rattle.synmon_top.specs.Sections.{sections_of, IsTableWithin};
 ghost use Rattle.synmon_top.specs.Answers.{AreValues, HasNeeds, IsSayable, values_of, said_of_all};
-ghost use Rattle.synmon_top.specs.Reports.{HasMoreSubsets, NeedsElements, IsWithin};
+ghost use Rattle.synmon_top.specs.Reports.{HasMoreSubsets, NeedsElements, NeedsTable, IsWithin};
 ghost use Rattle.synmon_top.specs.Outcome.{EndsOn, IsGivenPrefix};
 
 use crate::answers::{Answer, Values, answer_sections, have_limit, say_answers};
 use crate::ending::{Ending, Stop};
-use crate::sections::{needs_elements, sections_of};
+use crate::sections::{needs_elements, needs_table, sections_of};
 use automaton_file::{FileFault, Source, body_nfa, read_file};
+use cayley_tables::Cayley;
 use command_line::Request;
+use parallel_table::{Table, TableFault, fill, new_table};
 use report_text::{Buffer, SayFault, flush};
 use std::alloc::Global;
 use std::thread::Threads;
 use subset_minimal::{MOST_SUBSETS, MinDfa, MinFault, minimal};
 use syn_outside::{Gate, Sink};
+use syn_words::Memory;
 use syntactic_monoid::{SynFault, Syntactic, syntactic_of};
 
 /// Writes what a request asks for about the source that the bytes spell. Condition: its numbers are in the ranges of
@@ -56,11 +60,15 @@ pub(crate) fn report<R: Threads + Sync, O: Sink, G: Gate + Sync>(
         Err(SynFault::ElementLimit) => return Ending::Stopped(Stop::Elements(request.elements)),
         Err(SynFault::Memory) => return Ending::NoMemory,
     };
+    let Ok(table) = table_of(rt, alloc, &monoid, request, gate) else {
+        return Ending::NoMemory;
+    };
     let values = Values {
         request,
         source: &source,
         dfa: &dfa,
         monoid: &monoid,
+        table: &table,
     };
     write_sections(alloc, &values, out)
 }
@@ -108,6 +116,50 @@ fn monoid_of<R: Threads + Sync, G: Gate + Sync>(
     }
     let monoid = syntactic_of(rt, alloc, dfa, request.elements, request.workers, gate)?;
     Ok(Some(monoid))
+}
+
+/// The table of a monoid's products, if the command needs it and there are no more elements than its limit. Condition:
+/// the numbers of the request are in the ranges of their options.
+fn table_of<R: Threads + Sync, G: Gate + Sync>(
+    rt: &R,
+    alloc: Global,
+    monoid: &Option<Syntactic>,
+    request: &Request,
+    gate: &G,
+) -> Result<Option<Table>, Memory>
+    requires range { IsInRange request.now }
+    ensures { NeedsTable request.now.command → IfOk result (λ table. IfSome monoid.now (λ m.
+        IsTableWithin request.now.table (SameNode m.graphs.right) m.graphs.words table)) }
+{
+    let Some(monoid) = monoid else {
+        return Ok(None);
+    };
+    if !needs_table(request.command) {
+        return Ok(None);
+    }
+    table_within(rt, alloc, monoid.cayley(), request, gate)
+}
+
+/// The table of a monoid's products, if there are no more elements than its limit. Condition: the numbers of the
+/// request are in the ranges of their options.
+fn table_within<R: Threads + Sync, G: Gate + Sync>(
+    rt: &R,
+    alloc: Global,
+    cayley: &Cayley,
+    request: &Request,
+    gate: &G,
+) -> Result<Option<Table>, Memory>
+    requires range { IsInRange request.now }
+    ensures { IfOk result (λ table. IsTableWithin request.now.table (SameNode cayley.now.right)
+        cayley.now.words table) }
+{
+    let mut table = match new_table(alloc, cayley, request.table) {
+        Ok(table) => table,
+        Err(TableFault::TableLimit) => return Ok(None),
+        Err(TableFault::Memory) => return Err(Memory),
+    };
+    fill(rt, cayley, &mut table, request.workers, gate);
+    Ok(Some(table))
 }
 
 /// Computes the answers of the sections that are asked for, and writes them. Conditions: the values are those of the

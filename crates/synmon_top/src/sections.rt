@@ -1,7 +1,7 @@
 //! The sections of a report.
 ghost use Rattle.std.specs.Prelude.{◌≡◌, ◌↔◌, IsTrue};
 ghost use Rattle.synmon_top.specs.Sections.{sections_of};
-ghost use Rattle.synmon_top.specs.Reports.{NeedsElements};
+ghost use Rattle.synmon_top.specs.Reports.{NeedsElements, NeedsTable};
 
 use command_line::Command;
 
@@ -12,6 +12,8 @@ pub enum Section {
     Automaton,
     /// The elements of the syntactic monoid, and its rules.
     Monoid,
+    /// The products of all elements.
+    Table,
 }
 
 /// The sections that a command prints, in their order.
@@ -21,6 +23,7 @@ pub(crate) fn sections_of(command: Command) -> &'static [Section]
     match command {
         Command::Automaton => &[Section::Automaton],
         Command::Monoid => &[Section::Monoid],
+        Command::Table => &[Section::Table],
     }
 }
 
@@ -30,6 +33,16 @@ pub(crate) fn needs_elements(command: Command) -> bool
 {
     match command {
         Command::Automaton => false,
-        Command::Monoid => true,
+        Command::Monoid | Command::Table => true,
+    }
+}
+
+/// Whether a command needs the table of products.
+pub(crate) fn needs_table(command: Command) -> bool
+    ensures { IsTrue result ↔ NeedsTable command }
+{
+    match command {
+        Command::Automaton | Command::Monoid => false,
+        Command::Table => true,
     }
 }

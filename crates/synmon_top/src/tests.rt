@@ -17,6 +17,9 @@ const AB_STAR_TEXT: &str =
 const AB_STAR_MONOID: &str =
     "monoid\nelements 6\n0 1 in right 1 2 left 1 2\n1 a out right 3 4 left 3 5\n2 b out right 5 3 left 4 3\n3 aa out right 3 3 left 3 3\n4 ab in right 1 3 left 3 2\n5 ba out right 3 2 left 1 3\nrules 6\nbb aa\naaa aa\naab aa\naba a\nbaa aa\nbab b\n";
 
+const AB_STAR_TABLE: &str =
+    "table 6\n0 1 2 3 4 5\n1 3 4 3 3 1\n2 5 3 3 2 3\n3 3 3 3 3 3\n4 1 3 3 4 3\n5 3 2 3 3 5\n";
+
 /// The words with an even number of a, by four states that fold in pairs, and one that no word leads to.
 const EVEN_AS: &str =
     "synmon 1\nalphabet ba\nnfa 5\ninitial 2\nfinal 0 2 4\n0 a 1\n0 b 2\n1 a 0\n1 b 3\n2 a 3\n2 b 0\n3 a 2\n3 b 1\n4 a 4\n4 b 4\n";
@@ -107,7 +110,18 @@ const STOPPED: Row = Row {
 };
 
 /// Runs that write the whole text.
-const TEXTS: [Row; 15] = [
+const TEXTS: [Row; 17] = [
+    Row {
+        words: &["table", "--table", "6", "name"],
+        out: AB_STAR_TABLE,
+        ..GOOD
+    },
+    Row {
+        words: &["table", "--workers", "64", "name"],
+        file: FIVE_SETS,
+        out: AB_STAR_TABLE,
+        ..GOOD
+    },
     GOOD,
     Row {
         file: EVEN_AS,
@@ -182,8 +196,18 @@ const TEXTS: [Row; 15] = [
     },
 ];
 
-/// Runs that a count stops.
-const STOPS: [Row; 5] = [
+/// Runs that pass a limit, before a section is made or in one.
+const STOPS: [Row; 7] = [
+    Row {
+        words: &["table", "--table", "5", "name"],
+        out: "table limit 5\n",
+        ..STOPPED
+    },
+    Row {
+        words: &["table", "--table", "5", "--elements", "5", "name"],
+        errs: "synmon: limit elements 5\n",
+        ..STOPPED
+    },
     Row {
         words: &["automaton", "--subsets", "2", "name"],
         file: DEAD_SIGN,

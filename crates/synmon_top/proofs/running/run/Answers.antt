@@ -25,3 +25,10 @@ returns-clause-complete g c = λ text has calm steady.
     (verdict_told _ _ (said (record { text = text; limited = false })) c.answer-ending.result _ _ _
     _ c.answer-ending.ensures.ends c.answer-ending.ensures.cannot_read
     c.answer-ending.ensures.cannot_write has calm (λ _. steady))
+
+pub returns-clause-limited : goal.returns-clause-limited
+returns-clause-limited g c = λ text has calm steady.
+    subst (IsOrNoMemory 5) (sym c.status.ensures)
+    (verdict_told _ _ (said (record { text = text; limited = true })) c.answer-ending.result _ _ _
+    _ c.answer-ending.ensures.ends c.answer-ending.ensures.cannot_read
+    c.answer-ending.ensures.cannot_write has calm (λ _. steady))
