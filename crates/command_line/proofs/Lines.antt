@@ -17,12 +17,14 @@ use Rattle.command_line.specs.Line.{IsTaken, IsLine, IsNumberIn, AreNumbersIn, I
 -- the command with a word
 named : List ℕ → Command
 named word = cond (bytes_eq word (codes "monoid")) command.Monoid
-    (cond (bytes_eq word (codes "table")) command.Table command.Automaton)
+    (cond (bytes_eq word (codes "green")) command.Green
+    (cond (bytes_eq word (codes "table")) command.Table command.Automaton))
 
 named-word : (c : Command) → named (command_word c) ≡ c
 unfolding named
 named-word command.Automaton = refl
 named-word command.Monoid = refl
+named-word command.Green = refl
 named-word command.Table = refl
 
 -- the word of a command is no other's

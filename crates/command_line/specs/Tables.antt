@@ -34,4 +34,5 @@ option_at place = slice_index_or options place (row [] 0 0 0)
 abbrev pub command_word : Command → List ℕ
 command_word command.Automaton = codes "automaton"
 command_word command.Monoid = codes "monoid"
+command_word command.Green = codes "green"
 command_word command.Table = codes "table"

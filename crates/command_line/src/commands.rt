@@ -9,6 +9,8 @@ pub enum Command {
     Automaton,
     /// The elements of the syntactic monoid and their rules.
     Monoid,
+    /// Green's classes of the syntactic monoid, as an egg-box diagram.
+    Green,
     /// The products of all elements.
     Table,
 }
@@ -21,6 +23,7 @@ pub(crate) fn command_of(word: &str) -> Option<Command>
     match word.as_bytes() {
         b"automaton" => Some(Command::Automaton),
         b"monoid" => Some(Command::Monoid),
+        b"green" => Some(Command::Green),
         b"table" => Some(Command::Table),
         _ => None,
     }

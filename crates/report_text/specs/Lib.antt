@@ -3,3 +3,4 @@ pub mod Saying
 pub mod AutomatonSection
 pub mod MonoidSection
 pub mod TableSection
+pub mod GreenSection

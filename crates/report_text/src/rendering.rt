@@ -21,6 +21,14 @@ pub(crate) fn push_number(text: &mut Vec<u8>, number: u32) -> Result<(), Memory>
     push_bytes(text, digits.format(number).as_bytes())
 }
 
+/// Puts a count behind a text, in decimal digits.
+pub(crate) fn push_count(text: &mut Vec<u8>, count: usize) -> Result<(), Memory>
+    ensures { OnOk result (text.new.items ≡ text.old.items ++ decimal count) }
+{
+    let mut digits = itoa::Buffer::new();
+    push_bytes(text, digits.format(count).as_bytes())
+}
+
 /// Puts a letter behind a text, as it is written.
 pub(crate) fn push_letter(text: &mut Vec<u8>, alphabet: &Alphabet, letter: u8) -> Result<(), Memory>
     requires { letter < length alphabet.now }
@@ -60,7 +68,7 @@ pub(crate) fn push_membership(text: &mut Vec<u8>, is_in: bool) -> Result<(), Mem
 }
 
 /// Puts a gap behind a text, unless what follows is the first of several.
-pub(crate) fn push_gap(text: &mut Vec<u8>, gap: &[u8], place: u32) -> Result<(), Memory>
+pub(crate) fn push_gap(text: &mut Vec<u8>, gap: &[u8], place: usize) -> Result<(), Memory>
     ensures { OnOk result (text.new.items ≡ text.old.items ++ gap_before gap.now place) }
 {
     if place == 0 {

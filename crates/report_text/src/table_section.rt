@@ -106,7 +106,7 @@ fn push_row(text: &mut Vec<u8>, table: &Table, element: u32) -> Result<(), Memor
         ++ separated (codes " ") (λ j. decimal (cell table.now element j)) table.now.side) }
 {
     for other in 0..table.side() {
-        push_gap(text, b" ", other)?;
+        push_gap(text, b" ", other as usize)?;
         push_number(text, table.at(element, other))?;
     }
     Ok(())

@@ -14,9 +14,10 @@ use Rattle.syntactic_monoid.specs.SyntacticMonoid.{SyntacticMonoid}
 use Rattle.syntactic_monoid.proofs.OneMonoid.{monoids_are_one}
 use Rattle.report_text.specs.AutomatonSection.{automaton_text}
 use Rattle.report_text.specs.MonoidSection.{monoid_text}
+use Rattle.report_text.specs.GreenSection.{marked, green_text}
 use Rattle.synmon_top.specs.declared.sections.Section.{Section}
 use Rattle.synmon_top.specs.declared.sections.Section.TheVariants as section
-use Rattle.synmon_top.specs.Sections.{Limits, limits_of, Said, joined, sections_of, IsSection, AreSections, AreSaid, IsAutomatonSection, IsTableWithin}
+use Rattle.synmon_top.specs.Sections.{Limits, limits_of, Said, joined, sections_of, IsSection, AreSections, AreSaid, IsAutomatonSection, IsTableWithin, AreBoxesFor}
 use Rattle.synmon_top.specs.Reports.{Task, task_of, HasMoreSubsets, IsStop, Verdict, said, stopped, refused, IsReportOn, IsStopOn, IsVerdict}
 use Rattle.synmon_top.specs.Outcome.{AreBytesOf, IsDue, Outcome, IsDecided}
 use Rattle.synmon_top.specs.declared.ending.Ending.{Ending}
@@ -25,6 +26,7 @@ use Rattle.synmon_top.specs.declared.ending.Stop.{Stop}
 use Rattle.synmon_top.specs.declared.ending.Stop.TheVariants as stop
 use Rattle.synmon_top.proofs.Elements.{rules_are_one_too}
 use Rattle.synmon_top.proofs.Tables.{one_section_text, one_limit}
+use Rattle.synmon_top.proofs.Diagrams.{one_list_of_marks, one_list_of_boxes}
 use Rattle.synmon_top.proofs.Outcomes.{outcome-along}
 
 same_said : (p q : Said) → p.text ≡ q.text → p.limited ≡ q.limited → p ≡ q
@@ -47,6 +49,22 @@ one_section section.Monoid limits signs L p q h k =
     same_said p q
     (h.text ∙ ap (λ (m : SyntacticMonoid). monoid_text signs m h.rules) monoid
     ∙ ap (monoid_text signs k.monoid) rules ∙ sym k.text)
+    (h.unlimited ∙ sym k.unlimited)
+one_section section.Green limits signs L p q h k =
+    let monoid = monoids_are_one (length signs) L h.monoid k.monoid h.syntactic k.syntactic in
+    let P : SyntacticMonoid → Type 0 = λ m.
+    AreBoxesFor (length signs) (Syntactic (length signs) L) m.graphs.words h.idempotents h.boxes in
+    let diagram = subst P monoid h.diagram in
+    let marks = one_list_of_marks (length signs) (Syntactic (length signs) L) k.monoid.graphs.words
+    h.idempotents k.idempotents h.boxes k.boxes diagram k.diagram in
+    let boxes = one_list_of_boxes (length signs) (Syntactic (length signs) L) k.monoid.graphs.words
+    h.idempotents k.idempotents h.boxes k.boxes diagram k.diagram in
+    same_said p q
+    (h.text
+    ∙ ap (λ (m : SyntacticMonoid).
+    green_text signs (marked m.graphs.words h.idempotents) h.boxes) monoid
+    ∙ ap (λ b. green_text signs (marked k.monoid.graphs.words b) h.boxes) marks
+    ∙ ap (green_text signs (marked k.monoid.graphs.words k.idempotents)) boxes ∙ sym k.text)
     (h.unlimited ∙ sym k.unlimited)
 one_section section.Table limits signs L p q h k =
     let monoid = monoids_are_one (length signs) L h.monoid k.monoid h.syntactic k.syntactic in

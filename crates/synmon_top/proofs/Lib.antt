@@ -4,5 +4,6 @@ pub mod Joining
 pub mod Outcomes
 pub mod Elements
 pub mod Tables
+pub mod Diagrams
 pub mod Deciding
 pub mod Statuses

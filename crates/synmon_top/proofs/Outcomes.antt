@@ -16,13 +16,13 @@ use Rattle.command_line.specs.Line.{IsLine, IsAccepted, IsFaultOf}
 use Rattle.command_line.proofs.Lines.{line_without_fault}
 use Rattle.synmon_top.specs.Sections.{Limits, Said, sections_of, limits_of, AreSections, AreSaid}
 use Rattle.syntactic_monoid.specs.SyntacticMonoid.{SyntacticMonoid}
-use Rattle.synmon_top.specs.Answers.{Values, HasNeeds, HasTable, said_of, said_of_all}
+use Rattle.synmon_top.specs.Answers.{Values, HasNeeds, HasGreen, HasTable, said_of, said_of_all}
 use Rattle.report_text.specs.Saying.{Channel, IsSaid, IsBrokenOff}
 use Rattle.report_text.proofs.Channels.{broken-after}
 use Rattle.synmon_top.specs.declared.sections.Section.{Section}
 use Rattle.synmon_top.specs.declared.sections.Section.TheVariants as section
 use Rattle.synmon_top.specs.declared.answers.Answer.{Answer}
-use Rattle.synmon_top.specs.Reports.{Task, task_of, HasMoreSubsets, HasMoreElements, NeedsElements, NeedsTable, IsWithin, IsStop, Verdict, said, stopped, refused, IsReportOn, IsVerdict}
+use Rattle.synmon_top.specs.Reports.{Task, task_of, HasMoreSubsets, HasMoreElements, NeedsElements, NeedsGreen, NeedsTable, IsWithin, IsStop, Verdict, said, stopped, refused, IsReportOn, IsVerdict}
 use Rattle.synmon_top.specs.Outcome.{AreBytesOf, IsDue, BeginsDue, IsGivenPrefix, Outcome, EndsOn, Ends, ending_of_fault}
 use Rattle.synmon_top.specs.declared.ending.Ending.{Ending}
 use Rattle.synmon_top.specs.declared.ending.Ending.TheVariants as ending
@@ -36,21 +36,30 @@ unstopped request source within (stop.Subsets n) (same, more) =
 unstopped request source within (stop.Elements n) (needs, few, same, more) =
     within.elements needs (subst (HasMoreElements source) same more)
 
--- where the monoid is there if the command needs it, the sections of the command have what they need
+-- where what a command needs is there, its sections have what they need
 pub needs_there : (c : Command) (v : Values)
-    → (NeedsElements c → (m : SyntacticMonoid) × (v.monoid ≡ Some m))
+    → (NeedsElements c → (m : SyntacticMonoid) × (v.monoid ≡ Some m)) → (NeedsGreen c → HasGreen v)
     → (NeedsTable c → HasTable v) → All (HasNeeds v) (sections_of c)
-needs_there command.Automaton v monoid table =
+needs_there command.Automaton v monoid green table =
     All-cons (HasNeeds v) section.Automaton [] tt (All-nil (HasNeeds v))
-needs_there command.Monoid v monoid table =
+needs_there command.Monoid v monoid green table =
     All-cons (HasNeeds v) section.Monoid [] (monoid tt) (All-nil (HasNeeds v))
-needs_there command.Table v monoid table =
+needs_there command.Green v monoid green table =
+    All-cons (HasNeeds v) section.Green [] (green tt) (All-nil (HasNeeds v))
+needs_there command.Table v monoid green table =
     All-cons (HasNeeds v) section.Table [] (table tt) (All-nil (HasNeeds v))
 
--- a table is made of the elements
+-- Green's classes and the table are made of the elements
+pub green_needs_elements : (c : Command) → NeedsGreen c → NeedsElements c
+green_needs_elements command.Automaton needs = absurd needs
+green_needs_elements command.Monoid needs = absurd needs
+green_needs_elements command.Green needs = tt
+green_needs_elements command.Table needs = absurd needs
+
 pub table_needs_elements : (c : Command) → NeedsTable c → NeedsElements c
 table_needs_elements command.Automaton needs = absurd needs
 table_needs_elements command.Monoid needs = absurd needs
+table_needs_elements command.Green needs = absurd needs
 table_needs_elements command.Table needs = tt
 
 -- what the sections say about a source that nothing stops

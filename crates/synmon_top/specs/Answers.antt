@@ -8,6 +8,9 @@ use Rattle.automaton_file.specs.FileText.{SourceText, source_text, language_of}
 use Rattle.report_text.specs.AutomatonSection.{automaton_text}
 use Rattle.parallel_table.specs.ProductTables.{ProductTable}
 use Rattle.report_text.specs.MonoidSection.{monoid_text}
+use Rattle.cayley_tables.specs.CayleyGraphs.{CayleyGraphs}
+use Rattle.green_relations.specs.GreenClasses.{GreenClasses, AreGreens}
+use Rattle.report_text.specs.GreenSection.{AreBoxesToSay, marked, green_text}
 use Rattle.report_text.specs.TableSection.{section_text}
 use Rattle.synmon_top.specs.Sections.{Limits, limits_of, Said, joined, IsTableWithin}
 use Rattle.synmon_top.specs.declared.sections.Section.{Section}
@@ -17,13 +20,14 @@ use Rattle.synmon_top.specs.declared.answers.Answer.{Answer}
 use Rattle.synmon_top.specs.declared.answers.Answer.TheVariants as answer
 
 -- what is computed once for the sections of a request: its limits, a source, its minimal automaton,
--- its syntactic monoid if the command needs it, and the table of its products if the command needs
--- it and the monoid is within the limit
+-- its syntactic monoid and Green's classes if the command needs them, and the table of its products
+-- if the command needs it and the monoid is within the limit
 pub record Values : Type 0 where
   pub limits : Limits
   pub source : SourceText
   pub automaton : MinimalAutomaton
   pub monoid : Option SyntacticMonoid
+  pub green : Option GreenClasses
   pub table : Option ProductTable
 
 -- what the code lends to the sections, as values
@@ -33,6 +37,7 @@ values_of v = record {
   source = source_text v.source.now;
   automaton = v.dfa.now;
   monoid = v.monoid.now;
+  green = v.green.now;
   table = v.table.now;
 }
 
@@ -48,10 +53,22 @@ pub record HasTable (v : Values) : Type 0 where
   pub there : v.monoid ≡ Some monoid
   pub table : IsTableWithin v.limits.table (SameNode monoid.graphs.right) monoid.graphs.words v.table
 
+-- Green's classes are there, of the monoid with these graphs
+abbrev pub AreClassesOf : CayleyGraphs → Option GreenClasses → Type 0
+AreClassesOf c green = (g : GreenClasses) × (green ≡ Some g)
+    × AreGreens c.right.letters (SameNode c.right) c.words g
+
+-- the monoid is there, and Green's classes of it
+pub record HasGreen (v : Values) : Type 0 where
+  pub monoid : SyntacticMonoid
+  pub there : v.monoid ≡ Some monoid
+  pub classes : AreClassesOf monoid.graphs v.green
+
 -- what the section needs is there
 abbrev pub HasNeeds : Values → Section → Type 0
 HasNeeds v section.Automaton = ⊤
 HasNeeds v section.Monoid = (m : SyntacticMonoid) × (v.monoid ≡ Some m)
+HasNeeds v section.Green = HasGreen v
 HasNeeds v section.Table = HasTable v
 
 -- what the section `monoid` says: nothing where the monoid is not there
@@ -63,11 +80,24 @@ abbrev pub monoid_said : Values → List (List ℕ × ℕ) → Said
 monoid_said v rules =
     record { text = text_with v.source.letters rules v.monoid; limited = false }
 
+-- what the section `green` says: nothing where the monoid or its classes are not there
+abbrev pub boxes_with : List ℕ → List (List (List (List ℕ))) → Option SyntacticMonoid
+    → Option GreenClasses → List ℕ
+boxes_with signs boxes None g = []
+boxes_with signs boxes (Some m) None = []
+boxes_with signs boxes (Some m) (Some g) =
+    green_text signs (marked m.graphs.words g.idempotents) boxes
+
+abbrev pub green_said : Values → List (List (List (List ℕ))) → Said
+green_said v boxes =
+    record { text = boxes_with v.source.letters boxes v.monoid v.green; limited = false }
+
 -- what the section of an answer says
 abbrev pub said_of : Values → Answer → Said
 said_of v answer.Automaton =
     record { text = automaton_text v.source.letters v.automaton; limited = false }
 said_of v (answer.Monoid rules) = monoid_said v rules
+said_of v (answer.Green boxes) = green_said v boxes
 said_of v answer.Table =
     record { text = section_text v.table v.limits.table; limited = is_none v.table }
 
@@ -79,10 +109,19 @@ pub record ArePresented (v : Values) (rules : List (List ℕ × ℕ)) : Type 0 w
   pub own : AreRules (length v.source.letters) (SameNode monoid.graphs.right) monoid.graphs.words
       rules
 
+-- the monoid and its classes are there, over the letters of the source, and the boxes are their own
+pub record AreBoxed (v : Values) (boxes : List (List (List (List ℕ)))) : Type 0 where
+  pub monoid : SyntacticMonoid
+  pub there : v.monoid ≡ Some monoid
+  pub classes : GreenClasses
+  pub made : v.green ≡ Some classes
+  pub own : AreBoxesToSay v.source.letters monoid.graphs classes boxes
+
 -- the parts of an answer belong together
 abbrev pub IsSayable : Values → Answer → Type 0
 IsSayable v answer.Automaton = ⊤
 IsSayable v (answer.Monoid rules) = ArePresented v rules
+IsSayable v (answer.Green boxes) = AreBoxed v boxes
 IsSayable v answer.Table = ⊤
 
 -- what the sections of several answers say, one after another

@@ -35,12 +35,21 @@ HasMoreElements source n = HasMoreClasses (length source.letters)
 abbrev pub NeedsElements : Command → Type 0
 NeedsElements command.Automaton = ⊥
 NeedsElements command.Monoid = ⊤
+NeedsElements command.Green = ⊤
 NeedsElements command.Table = ⊤
+
+-- the command needs Green's classes
+abbrev pub NeedsGreen : Command → Type 0
+NeedsGreen command.Automaton = ⊥
+NeedsGreen command.Monoid = ⊥
+NeedsGreen command.Green = ⊤
+NeedsGreen command.Table = ⊥
 
 -- the command needs the table of products
 abbrev pub NeedsTable : Command → Type 0
 NeedsTable command.Automaton = ⊥
 NeedsTable command.Monoid = ⊥
+NeedsTable command.Green = ⊥
 NeedsTable command.Table = ⊤
 
 -- a source is within the limits of a request's counts

@@ -1,10 +1,14 @@
 -- The sections of a report: which sections a command prints, and what each says about a language.
-use Rattle.std.specs.Prelude.{◌≡◌, ◌<◌, ◌≤◌, ℕ, Bool, true, false, List, [], ◌∷◌, Option, Some, None, is_none, ⊤, length}
+use Rattle.std.specs.Prelude.{◌≡◌, ◌<◌, ◌≤◌, ℕ, Bool, true, false, List, [], ◌∷◌, Option, Some, None, is_none, IsTrue, ◌↔◌, ⊤, length}
 use Rattle.std.specs.List.{flat_map, list_any}
+use Rattle.language_theory.specs.Words.{word_at}
+use Rattle.language_theory.specs.Automaton.{is_marked}
 use Rattle.language_theory.specs.Congruence.{Syntactic}
 use Rattle.language_theory.specs.Nerode.{MinimalAutomaton, IsMinimal}
 use Rattle.monoid_theory.specs.Presentation.{AreRules}
 use Rattle.monoid_theory.specs.Products.{IsProduct}
+use Rattle.monoid_theory.specs.Green.{IsIdempotent}
+use Rattle.green_relations.specs.EggBoxes.{AreEggBoxes}
 use Rattle.parallel_table.specs.ProductTables.{ProductTable, cell}
 use Rattle.syntactic_monoid.specs.SyntacticMonoid.{SyntacticMonoid, IsSyntacticMonoid}
 use Rattle.command_line.specs.declared.commands.Command.{Command}
@@ -12,6 +16,7 @@ use Rattle.command_line.specs.declared.commands.Command.TheVariants as command
 use Rattle.command_line.specs.declared.request.Request.{Request}
 use Rattle.report_text.specs.AutomatonSection.{automaton_text}
 use Rattle.report_text.specs.MonoidSection.{monoid_text}
+use Rattle.report_text.specs.GreenSection.{marked, green_text}
 use Rattle.report_text.specs.TableSection.{section_text}
 use Rattle.synmon_top.specs.declared.sections.Section.{Section}
 use Rattle.synmon_top.specs.declared.sections.Section.TheVariants as section
@@ -41,6 +46,7 @@ limits_of r = record {
 abbrev pub sections_of : Command → List Section
 sections_of command.Automaton = section.Automaton ∷ []
 sections_of command.Monoid = section.Monoid ∷ []
+sections_of command.Green = section.Green ∷ []
 sections_of command.Table = section.Table ∷ []
 
 -- what a section says: its text, and whether the answer that it tells is a limit
@@ -63,6 +69,26 @@ pub record IsMonoidSection (signs : List ℕ) (L : List ℕ → Type 0) (said : 
   pub rules : List (List ℕ × ℕ)
   pub presentation : AreRules (length signs) (Syntactic (length signs) L) monoid.graphs.words rules
   pub text : said.text ≡ monoid_text signs monoid rules
+  pub unlimited : said.limited ≡ false
+
+-- the idempotents among the elements of a congruence, and its egg-box diagram
+pub record AreBoxesFor (k : ℕ) (same : List ℕ → List ℕ → Type 0) (words : List (List ℕ))
+    (idempotents : List Bool) (boxes : List (List (List (List ℕ)))) : Type 0 where
+  pub marks : length idempotents ≡ length words
+  pub idempotent : (i : ℕ) → i < length words
+      → IsTrue (is_marked idempotents i) ↔ IsIdempotent same (word_at words i)
+  pub diagram : AreEggBoxes k same words boxes
+
+-- The section `green`: the egg-box diagram of the syntactic monoid. The boxes are its classes of J,
+-- their rows those of R, their columns those of L, their cells those of H.
+pub record IsGreenSection (signs : List ℕ) (L : List ℕ → Type 0) (said : Said) : Type 0 where
+  pub monoid : SyntacticMonoid
+  pub syntactic : IsSyntacticMonoid (length signs) L monoid
+  pub idempotents : List Bool
+  pub boxes : List (List (List (List ℕ)))
+  pub diagram : AreBoxesFor (length signs) (Syntactic (length signs) L) monoid.graphs.words
+      idempotents boxes
+  pub text : said.text ≡ green_text signs (marked monoid.graphs.words idempotents) boxes
   pub unlimited : said.limited ≡ false
 
 -- the table has the products of the classes of a relation that have these representatives
@@ -93,6 +119,7 @@ pub record IsTableSection (most : ℕ) (signs : List ℕ) (L : List ℕ → Type
 abbrev pub IsSection : Section → Limits → List ℕ → (List ℕ → Type 0) → Said → Type 0
 IsSection section.Automaton limits signs L said = IsAutomatonSection signs L said
 IsSection section.Monoid limits signs L said = IsMonoidSection signs L said
+IsSection section.Green limits signs L said = IsGreenSection signs L said
 IsSection section.Table limits signs L said = IsTableSection limits.table signs L said
 
 -- what each of these sections says, one after another

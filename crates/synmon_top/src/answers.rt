@@ -3,14 +3,15 @@ ghost use Rattle.std.specs.Prelude.{◌≡◌, ◌≤◌, false, length, map, Al
 ghost use Rattle.report_text.specs.Saying.{Says, channel};
 ghost use Rattle.automaton_file.specs.FileText.{language_of};
 ghost use Rattle.synmon_top.specs.Sections.{IsSection, AreSections};
-ghost use Rattle.synmon_top.specs.Answers.{AreValues, HasNeeds, IsSayable, ArePresented, values_of, monoid_said, said_of, said_of_all};
+ghost use Rattle.synmon_top.specs.Answers.{AreValues, HasNeeds, IsSayable, ArePresented, AreBoxed, HasGreen, values_of, monoid_said, green_said, said_of, said_of_all};
 
 use crate::sections::Section;
 use automaton_file::Source;
 use command_line::Request;
+use green_relations::{Boxes, Green, boxes_of};
 use parallel_table::Table;
 use presentation::{Rules, rules_of};
-use report_text::{Buffer, SayFault, say_automaton, say_monoid, say_table};
+use report_text::{Buffer, SayFault, say_automaton, say_green, say_monoid, say_table};
 use std::alloc::Global;
 use subset_minimal::MinDfa;
 use syn_outside::Sink;
@@ -28,6 +29,8 @@ pub(crate) struct Values<'a> {
     pub(crate) dfa: &'a MinDfa,
     /// The syntactic monoid of its language, if the command needs it.
     pub(crate) monoid: &'a Option<Syntactic>,
+    /// Green's classes of the monoid, if the command needs them.
+    pub(crate) green: &'a Option<Green>,
     /// The table of its products, if the command needs it and it is within its limit.
     pub(crate) table: &'a Option<Table>,
 }
@@ -39,6 +42,8 @@ pub enum Answer {
     Automaton,
     /// The elements of the syntactic monoid, and its rules.
     Monoid(Rules),
+    /// The egg-box diagram of the syntactic monoid.
+    Green(Boxes),
     /// The products of all elements, or that there are more than the limit.
     Table,
 }
@@ -49,7 +54,7 @@ impl Answer {
         ensures { result ≡ (said_of (values_of values.now) self.now).limited }
     {
         match self {
-            Answer::Automaton | Answer::Monoid(_) => false,
+            Answer::Automaton | Answer::Monoid(_) | Answer::Green(_) => false,
             Answer::Table => values.table.is_none(),
         }
     }
@@ -89,6 +94,7 @@ fn answer_section(alloc: Global, section: Section, values: &Values<'_>) -> Resul
     match section {
         Section::Automaton => Ok(Answer::Automaton),
         Section::Monoid => answer_monoid(alloc, values),
+        Section::Green => answer_green(alloc, values),
         Section::Table => Ok(Answer::Table),
     }
 }
@@ -106,6 +112,20 @@ fn answer_monoid(alloc: Global, values: &Values<'_>) -> Result<Answer, Memory>
     let monoid = values.monoid.as_ref().unwrap();
     let rules = rules_of(alloc, monoid.cayley())?;
     Ok(Answer::Monoid(rules))
+}
+
+/// The answer of the section `green`. Conditions: the values are those of the source's language, and the monoid and its
+/// classes are there.
+fn answer_green(alloc: Global, values: &Values<'_>) -> Result<Answer, Memory>
+    requires values { AreValues (values_of values.now) }
+    requires needs { HasGreen (values_of values.now) }
+    ensures sayable { IfOk result (λ answer. IsSayable (values_of values.now) answer) }
+    ensures said { IfOk result (λ answer. IsSection Section.Green (values_of values.now).limits
+        (values_of values.now).source.letters (language_of (values_of values.now).source)
+        (said_of (values_of values.now) answer)) }
+{
+    let boxes = boxes_of(alloc, values.green.as_ref().unwrap())?;
+    Ok(Answer::Green(boxes))
 }
 
 /// Whether one of the answers is a limit.
@@ -166,6 +186,7 @@ fn say_answer<S: Sink>(
             values.dfa,
         ),
         Answer::Monoid(rules) => say_rules_of(alloc, sink, buffer, values, rules),
+        Answer::Green(boxes) => say_boxes_of(alloc, sink, buffer, values, boxes),
         Answer::Table => say_table(
             alloc,
             sink,
@@ -192,4 +213,25 @@ fn say_rules_of<S: Sink>(
 {
     let monoid = values.monoid.as_ref().unwrap();
     say_monoid(alloc, sink, buffer, &values.source.alphabet, monoid, rules)
+}
+
+/// Says the section `green`. Conditions: the monoid and its classes are there and the boxes are their own, and the
+/// buffer is not broken.
+fn say_boxes_of<S: Sink>(
+    alloc: Global,
+    sink: &mut S,
+    buffer: &mut Buffer,
+    values: &Values<'_>,
+    boxes: &Boxes,
+) -> Result<(), SayFault>
+    requires sayable { AreBoxed (values_of values.now) boxes.now }
+    requires whole { buffer.old.broken ≡ false }
+    ensures { Says (channel (S.written sink.old) (S.faults sink.old) buffer.old) result
+        (channel (S.written sink.new) (S.faults sink.new) buffer.new)
+        (green_said (values_of values.now) boxes.now).text }
+{
+    let cayley = values.monoid.as_ref().unwrap().cayley();
+    let green = values.green.as_ref().unwrap();
+    let alphabet = &values.source.alphabet;
+    say_green(alloc, sink, buffer, alphabet, cayley, green, boxes)
 }

@@ -10,16 +10,17 @@ ghost use Rattle.automaton_file.specs.FileText.{source_text, body_text, language
 ghost use Rattle.command_line.specs.Line.{IsInRange};
 ghost use Rattle.syntactic_monoid.specs.SyntacticMonoid.{IsSyntacticMonoid};
 ghost use Rattle.synmon_top.specs.Sections.{sections_of, IsTableWithin};
-ghost use Rattle.synmon_top.specs.Answers.{AreValues, HasNeeds, IsSayable, values_of, said_of_all};
-ghost use Rattle.synmon_top.specs.Reports.{HasMoreSubsets, NeedsElements, NeedsTable, IsWithin};
+ghost use Rattle.synmon_top.specs.Answers.{AreValues, HasNeeds, AreClassesOf, IsSayable, values_of, said_of_all};
+ghost use Rattle.synmon_top.specs.Reports.{HasMoreSubsets, NeedsElements, NeedsGreen, NeedsTable, IsWithin};
 ghost use Rattle.synmon_top.specs.Outcome.{EndsOn, IsGivenPrefix};
 
 use crate::answers::{Answer, Values, answer_sections, have_limit, say_answers};
 use crate::ending::{Ending, Stop};
-use crate::sections::{needs_elements, needs_table, sections_of};
+use crate::sections::{needs_elements, needs_green, needs_table, sections_of};
 use automaton_file::{FileFault, Source, body_nfa, read_file};
 use cayley_tables::Cayley;
 use command_line::Request;
+use green_relations::{Green, green_of};
 use parallel_table::{Table, TableFault, fill, new_table};
 use report_text::{Buffer, SayFault, flush};
 use std::alloc::Global;
@@ -60,6 +61,9 @@ pub(crate) fn report<R: Threads + Sync, O: Sink, G: Gate + Sync>(
         Err(SynFault::ElementLimit) => return Ending::Stopped(Stop::Elements(request.elements)),
         Err(SynFault::Memory) => return Ending::NoMemory,
     };
+    let Ok(green) = classes_of(alloc, &monoid, request) else {
+        return Ending::NoMemory;
+    };
     let Ok(table) = table_of(rt, alloc, &monoid, request, gate) else {
         return Ending::NoMemory;
     };
@@ -68,6 +72,7 @@ pub(crate) fn report<R: Threads + Sync, O: Sink, G: Gate + Sync>(
         source: &source,
         dfa: &dfa,
         monoid: &monoid,
+        green: &green,
         table: &table,
     };
     write_sections(alloc, &values, out)
@@ -116,6 +121,25 @@ fn monoid_of<R: Threads + Sync, G: Gate + Sync>(
     }
     let monoid = syntactic_of(rt, alloc, dfa, request.elements, request.workers, gate)?;
     Ok(Some(monoid))
+}
+
+/// Green's classes of a monoid, if the command needs them.
+fn classes_of(
+    alloc: Global,
+    monoid: &Option<Syntactic>,
+    request: &Request,
+) -> Result<Option<Green>, Memory>
+    ensures { NeedsGreen request.now.command → IfOk result (λ green. IfSome monoid.now (λ m.
+        AreClassesOf m.graphs green)) }
+{
+    let Some(monoid) = monoid else {
+        return Ok(None);
+    };
+    if !needs_green(request.command) {
+        return Ok(None);
+    }
+    let green = green_of(alloc, monoid.cayley())?;
+    Ok(Some(green))
 }
 
 /// The table of a monoid's products, if the command needs it and there are no more elements than its limit. Condition:

@@ -1,7 +1,7 @@
 //! The sections of a report.
 ghost use Rattle.std.specs.Prelude.{◌≡◌, ◌↔◌, IsTrue};
 ghost use Rattle.synmon_top.specs.Sections.{sections_of};
-ghost use Rattle.synmon_top.specs.Reports.{NeedsElements, NeedsTable};
+ghost use Rattle.synmon_top.specs.Reports.{NeedsElements, NeedsGreen, NeedsTable};
 
 use command_line::Command;
 
@@ -12,6 +12,8 @@ pub enum Section {
     Automaton,
     /// The elements of the syntactic monoid, and its rules.
     Monoid,
+    /// Green's classes of the syntactic monoid, as an egg-box diagram.
+    Green,
     /// The products of all elements.
     Table,
 }
@@ -23,6 +25,7 @@ pub(crate) fn sections_of(command: Command) -> &'static [Section]
     match command {
         Command::Automaton => &[Section::Automaton],
         Command::Monoid => &[Section::Monoid],
+        Command::Green => &[Section::Green],
         Command::Table => &[Section::Table],
     }
 }
@@ -33,7 +36,7 @@ pub(crate) fn needs_elements(command: Command) -> bool
 {
     match command {
         Command::Automaton => false,
-        Command::Monoid | Command::Table => true,
+        Command::Monoid | Command::Green | Command::Table => true,
     }
 }
 
@@ -42,7 +45,17 @@ pub(crate) fn needs_table(command: Command) -> bool
     ensures { IsTrue result ↔ NeedsTable command }
 {
     match command {
-        Command::Automaton | Command::Monoid => false,
+        Command::Automaton | Command::Monoid | Command::Green => false,
         Command::Table => true,
+    }
+}
+
+/// Whether a command needs Green's classes.
+pub(crate) fn needs_green(command: Command) -> bool
+    ensures { IsTrue result ↔ NeedsGreen command }
+{
+    match command {
+        Command::Automaton | Command::Monoid | Command::Table => false,
+        Command::Green => true,
     }
 }

@@ -17,6 +17,9 @@ const AB_STAR_TEXT: &str =
 const AB_STAR_MONOID: &str =
     "monoid\nelements 6\n0 1 in right 1 2 left 1 2\n1 a out right 3 4 left 3 5\n2 b out right 5 3 left 4 3\n3 aa out right 3 3 left 3 3\n4 ab in right 1 3 left 3 2\n5 ba out right 3 2 left 1 3\nrules 6\nbb aa\naaa aa\naab aa\naba a\nbaa aa\nbab b\n";
 
+const AB_STAR_GREEN: &str =
+    "green\nboxes 3\nbox 0 rows 1 columns 1 size 1\n1*\nbox 1 rows 2 columns 2 size 1\na | ab*\nba* | b\nbox 2 rows 1 columns 1 size 1\naa*\nidempotents 4\n";
+
 const AB_STAR_TABLE: &str =
     "table 6\n0 1 2 3 4 5\n1 3 4 3 3 1\n2 5 3 3 2 3\n3 3 3 3 3 3\n4 1 3 3 4 3\n5 3 2 3 3 5\n";
 
@@ -110,7 +113,18 @@ const STOPPED: Row = Row {
 };
 
 /// Runs that write the whole text.
-const TEXTS: [Row; 17] = [
+const TEXTS: [Row; 19] = [
+    Row {
+        words: &["green", "name"],
+        out: AB_STAR_GREEN,
+        ..GOOD
+    },
+    Row {
+        words: &["green", "name"],
+        file: EVEN_AS,
+        out: "green\nboxes 1\nbox 0 rows 1 columns 1 size 2\n1* a\nidempotents 1\n",
+        ..GOOD
+    },
     Row {
         words: &["table", "--table", "6", "name"],
         out: AB_STAR_TABLE,

@@ -9,7 +9,7 @@ use Rattle.synmon_top.specs.Reports.{HasMoreSubsets, NeedsElements}
 use Rattle.synmon_top.specs.Answers.{Values}
 use Rattle.synmon_top.specs.declared.ending.Stop.TheVariants as stop
 use Rattle.synmon_top.proofs.Elements.{monoid_of_source, many_elements, few_elements, from_some, some_there}
-use Rattle.synmon_top.proofs.Outcomes.{ends_refused, ends_stopped, needs_there, table_needs_elements}
+use Rattle.synmon_top.proofs.Outcomes.{ends_refused, ends_stopped, needs_there, green_needs_elements, table_needs_elements}
 use Rattle.synmon_top.proofs.reporting.report.Goals as goal
 
 pub returns-in-Err-Refused-clause-ends : goal.returns-in-Err-Refused-clause-ends
@@ -56,11 +56,21 @@ write_sections-requires-clause-needs g c =
       source = source_text c.in-Ok.source;
       automaton = c.in-Ok-minimal_of.dfa;
       monoid = c.in-Ok-monoid_of.monoid;
+      green = c.in-Ok-classes_of.green;
       table = c.in-Ok-table_of.table;
     } in
     let command = c.args.request.now.command in
     needs_there command v
     (λ needs. some_there c.in-Ok-monoid_of.monoid (c.in-Ok-monoid_of.ensures.there needs))
+    (λ needs.
+    let found = some_there c.in-Ok-monoid_of.monoid
+    (c.in-Ok-monoid_of.ensures.there (green_needs_elements command needs)) in
+    record {
+      monoid = found.0;
+      there = found.1;
+      classes = from_some _ c.in-Ok-monoid_of.monoid found.0 (c.in-Ok-classes_of.ensures needs)
+          found.1;
+    })
     (λ needs.
     let found = some_there c.in-Ok-monoid_of.monoid
     (c.in-Ok-monoid_of.ensures.there (table_needs_elements command needs)) in
