@@ -9,6 +9,8 @@ mod running;
 mod sections;
 #[cfg(test)]
 mod tests;
+#[cfg(test)]
+mod worker_tests;
 
 pub use laws::{the_outcome_is_unique, workers_change_no_outcome};
 pub use running::run;
