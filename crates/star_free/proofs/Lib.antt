@@ -1,0 +1,2 @@
+pub mod PowerNodes
+pub mod Looping

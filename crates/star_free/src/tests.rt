@@ -1,0 +1,82 @@
+//! Worked examples, with values found by hand.
+ghost use Rattle.std.specs.Prelude.{◌≤◌};
+
+use crate::{Powers, decide};
+use std::alloc::Global;
+use std::test::Fail;
+use std::thread::Threads;
+use subset_minimal::minimal;
+use syn_outside::OpenGate;
+use syn_words::{Memory, Nfa, Word};
+use syntactic_monoid::{Syntactic, syntactic_of};
+
+/// An automaton of `(aa)*` over a.
+fn even_length(alloc: Global) -> Result<Nfa, Memory> {
+    let mut nfa = Nfa::new(alloc, 2, 1)?;
+    nfa.set_initial(0);
+    nfa.set_final(0);
+    nfa.add_step(0, 0, 1)?;
+    nfa.add_step(1, 0, 0)?;
+    Ok(nfa)
+}
+
+/// An automaton of `(ab)*` over ab; some of its elements are not their own cubes' squares, but all settle.
+fn ab_star(alloc: Global) -> Result<Nfa, Memory> {
+    let mut nfa = Nfa::new(alloc, 2, 2)?;
+    nfa.set_initial(0);
+    nfa.set_final(0);
+    nfa.add_step(0, 0, 1)?;
+    nfa.add_step(1, 1, 0)?;
+    Ok(nfa)
+}
+
+/// The syntactic monoid of an automaton that reaches at most three state sets.
+fn monoid_of<R: Threads + Sync>(rt: &R, alloc: Global, nfa: &Nfa) -> Result<Syntactic, Memory> {
+    let Ok(dfa) = minimal(alloc, nfa, 3) else {
+        return Err(Memory);
+    };
+    match syntactic_of(rt, alloc, &dfa, 6, 1, &OpenGate) {
+        Ok(monoid) => Ok(monoid),
+        Err(_) => Err(Memory),
+    }
+}
+
+/// Puts a word behind a text, with its letters from `a` on, and a line's end.
+fn push_word(text: &mut Vec<u8>, word: &Word) -> Result<(), Memory> {
+    for letter in word.letters() {
+        text.push(letter.wrapping_add(b'a'))?;
+    }
+    text.push(b'\n')?;
+    Ok(())
+}
+
+/// The words that never settle, the index and the period as digits, and a star if the first word is in the language;
+/// nothing where all powers settle.
+fn powers_text(alloc: Global, powers: &Powers) -> Result<Vec<u8>, Memory> {
+    let mut text = Vec::new(alloc);
+    if let Powers::Loops(found) = powers {
+        push_word(&mut text, &found.u)?;
+        push_word(&mut text, &found.x)?;
+        push_word(&mut text, &found.v)?;
+        text.push(b'0' + (found.index % 10) as u8)?;
+        text.push(b'0' + (found.period % 10) as u8)?;
+        text.push(if found.first_in { b'*' } else { b' ' })?;
+    }
+    Ok(text)
+}
+
+#[test]
+fn even_length_never_settles(rt: HostRuntime) -> Result<(), Fail> {
+    let monoid = monoid_of(&rt, rt.alloc(), &even_length(rt.alloc())?)?;
+    let text = powers_text(rt.alloc(), &decide(rt.alloc(), &monoid)?)?;
+    assert_eq!(rt; text.as_slice(), b"\na\n\n02*".as_slice());
+    Ok(())
+}
+
+#[test]
+fn ab_star_settles(rt: HostRuntime) -> Result<(), Fail> {
+    let monoid = monoid_of(&rt, rt.alloc(), &ab_star(rt.alloc())?)?;
+    let text = powers_text(rt.alloc(), &decide(rt.alloc(), &monoid)?)?;
+    assert_eq!(rt; text.as_slice(), b"".as_slice());
+    Ok(())
+}
