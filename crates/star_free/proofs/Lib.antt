@@ -1,2 +1,3 @@
 pub mod PowerNodes
 pub mod Looping
+pub mod Answering

@@ -24,7 +24,7 @@ use Rattle.star_free.specs.Loops.{IsFirstLoopWord, IsLoop}
 use Rattle.star_free.proofs.PowerNodes.{product_is_node}
 
 -- the least word of a language is that of each language with the same words
-least_word_alike : (k : ℕ) (P Q : List ℕ → Type 0) (w : List ℕ)
+pub least_word_alike : (k : ℕ) (P Q : List ℕ → Type 0) (w : List ℕ)
     → ((v : List ℕ) → Over k v → P v ↔ Q v) → IsLeastWord k P w → IsLeastWord k Q w
 least_word_alike k P Q w a h = record {
   over = h.over;
@@ -32,7 +32,7 @@ least_word_alike k P Q w a h = record {
   least = λ v o q. h.least v o ((a v o).1 q);
 }
 
-exactly_one_alike : (P Q R S : Type 0) → P ↔ R → Q ↔ S → ExactlyOne P Q → ExactlyOne R S
+pub exactly_one_alike : (P Q R S : Type 0) → P ↔ R → Q ↔ S → ExactlyOne P Q → ExactlyOne R S
 exactly_one_alike P Q R S f g (inl (p, n)) = inl (f.0 p, λ s. n (g.1 s))
 exactly_one_alike P Q R S f g (inr (n, q)) = inr (λ r. n (f.1 r), g.0 q)
 

@@ -3,6 +3,7 @@
 
 mod cycles;
 mod deciding;
+pub mod laws;
 #[cfg(test)]
 mod tests;
 
