@@ -123,9 +123,12 @@ module _ (k : ℕ) (L : List ℕ → Type 0) where
       by : words ≡ others → (x ≡ y) × (i ≡ j) × (p ≡ q)
       by s =
           let t = first_loop_is_one (Syntactic k L) words e i p d j q f
-          (subst (λ (w : List (List ℕ)). IsFirstLoop (Syntactic k L) w d j q) (sym s) g) in
-          (is ∙ (subst₂ (λ (w : List (List ℕ)) (n : ℕ). word_at words e ≡ word_at w n) s t.0 refl
-          ∙ sym it), t.1, t.2)
+          (subst (λ (w : List (List ℕ)). IsFirstLoop (Syntactic k L) w d j q) (sym s) g) in (
+            is ∙ (subst₂ (λ (w : List (List ℕ)) (n : ℕ). word_at words e ≡ word_at w n) s t.0 refl
+                ∙ sym it),
+            t.1,
+            t.2,
+          )
 
   no_both : (x : List ℕ) (i p : ℕ) → IsFirstLoopWord k L x i p → ¬ IsAperiodic k (Syntactic k L)
   no_both x i p (words, e, l, f, is) = loop_not_aperiodic k (Syntactic k L) words l e i p f

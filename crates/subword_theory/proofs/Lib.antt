@@ -1,0 +1,4 @@
+pub mod SameWords
+pub mod Pumping
+pub mod Places
+pub mod Rows

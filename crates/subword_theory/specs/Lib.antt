@@ -1,0 +1,2 @@
+pub mod ShortSubwords
+pub mod SubwordRows
