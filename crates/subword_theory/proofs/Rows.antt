@@ -111,6 +111,20 @@ next_marks k a marks q l h = (to, from)
         own = let g : child k (parent k q) a ≡ q = ap (λ (i : ℕ). child k i a) up ∙ f in
             grind (arith, common_steps)
 
+-- the next row is known by its marks
+pub next_row_known : (k a : ℕ) (marks new : List Bool) → a < k → length new ≡ length marks
+    → ((q : ℕ) → q < length marks → IsTrue (is_marked new q) ↔ IsNextMark k a marks q)
+    → new ≡ next_row k a marks
+next_row_known k a marks new l e f =
+    ext_get_or false new (next_row k a marks) (e ∙ sym (next_long k a marks)) alike
+  where
+    alike : (q : ℕ) → q < length new → is_marked new q ≡ is_marked (next_row k a marks) q
+    alike q h =
+        let m : q < length marks = omega arith in
+        let n = next_marks k a marks q l m in
+        equal_tests (is_marked new q) (is_marked (next_row k a marks) q)
+        (λ t. n.1 ((f q m).0 t)) (λ t. (f q m).1 (n.0 t))
+
 -- ---- rows of words
 
 bare : (n q : ℕ) → is_marked (replicate n false) q ≡ false

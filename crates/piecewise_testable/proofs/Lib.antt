@@ -1,0 +1,14 @@
+pub mod BothSides
+pub mod LeastPlaces
+pub mod Searches
+pub mod Others
+pub mod Letters
+pub mod RoundNumbers
+pub mod Between
+pub mod Commutation
+pub mod Agreeing
+pub mod SeenRows
+pub mod Children
+pub mod Widths
+pub mod RoundWitness
+pub mod SwapWitness
