@@ -12,3 +12,6 @@ pub mod Children
 pub mod Widths
 pub mod RoundWitness
 pub mod SwapWitness
+pub mod ToldApart
+pub mod OneAnswer
+pub mod Answering

@@ -4,3 +4,4 @@ pub mod Commuting
 pub mod Rounds
 pub mod Partings
 pub mod SubwordKeys
+pub mod Answers

@@ -1,7 +1,10 @@
 //! Piecewise testable languages, and languages whose monoids are R-trivial or commutative.
 #![tactic(auto)]
 
+mod answer;
 mod commuting;
+mod deciding;
+pub mod laws;
 mod parting;
 mod rounds;
 mod rows;
@@ -10,7 +13,9 @@ mod subwords;
 mod trivial;
 mod witness;
 
+pub use answer::PtAnswer;
 pub use commuting::commutative;
+pub use deciding::piecewise;
 pub use subwords::Subwords;
 pub use trivial::r_trivial;
 pub use witness::{CWitness, PtWitness, Side};

@@ -1,0 +1,41 @@
+use Rattle.std.proofs.Common.{◌≡◌, sym, subst}
+use Rattle.std.specs.Prelude.{Option}
+use Rattle.syntactic_monoid.specs.SyntacticMonoid.{recognised}
+use Rattle.piecewise_testable.specs.declared.witness.Side.TheVariants.{Right, Left}
+use Rattle.piecewise_testable.specs.declared.witness.PtWitness.{PtWitness}
+use Rattle.piecewise_testable.specs.declared.answer.PtAnswer.{PtAnswer}
+use Rattle.piecewise_testable.specs.Witness.{IsAnswerOn}
+use Rattle.piecewise_testable.specs.Answers.{IsPiecewiseAnswer}
+use Rattle.piecewise_testable.proofs.Answering.{refused_on_right, refused_on_left, answer_of_search}
+use Rattle.piecewise_testable.proofs.deciding.piecewise.Goals as goal
+
+pub returns-in-Some : goal.returns-in-Some
+returns-in-Some c =
+    let m = c.args.monoid.now in
+    let k = m.graphs.right.letters in
+    let h = subst (λ (w : Option PtWitness). IsAnswerOn Right k (recognised m) w) c.in-Some.is
+    c.in_ok-witness.ensures in
+    refused_on_right k (recognised m) c.in-Some.witness h.0 h.1
+
+pub returns-in-Some-2 : goal.returns-in-Some-2
+returns-in-Some-2 c =
+    let m = c.args.monoid.now in
+    let k = m.graphs.right.letters in
+    let r = subst (λ (w : Option PtWitness). IsAnswerOn Right k (recognised m) w) c.in_default.is
+    c.in_ok-witness.ensures in
+    let h = subst (λ (w : Option PtWitness). IsAnswerOn Left k (recognised m) w) c.in-Some-2.is
+    c.in_ok-witness-2.ensures in
+    refused_on_left k (recognised m) c.in-Some-2.witness h.0 r h.1
+
+pub returns : goal.returns
+returns c =
+    let m = c.args.monoid.now in
+    let k = m.graphs.right.letters in
+    let r = subst (λ (w : Option PtWitness). IsAnswerOn Right k (recognised m) w) c.in_default.is
+    c.in_ok-witness.ensures in
+    let t = subst (λ (w : Option PtWitness). IsAnswerOn Left k (recognised m) w) c.in_default-2.is
+    c.in_ok-witness-2.ensures in
+    subst (IsPiecewiseAnswer k (recognised m) c.args.max_pairs c.args.max_level)
+    (sym c.level_answer.ensures)
+    (answer_of_search m c.cayley-cayley.ensures.syntactic c.args.dfa.now c.requires.minimal
+    c.args.max_pairs c.args.max_level c.in_ok-level.level r t c.in_ok-level.ensures)

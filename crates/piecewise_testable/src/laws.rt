@@ -1,0 +1,70 @@
+//! Laws of the answers: each language has one, and the words of a witness are told apart at every level.
+ghost use Rattle.std.specs.Prelude.{◌≡◌, ◌<◌, ◌≤◌, ◌↔◌, ℕ, List, Option};
+ghost use Rattle.language_theory.specs.Languages.{HaveSameWords};
+ghost use Rattle.language_theory.specs.Congruence.{IsCongruence, Syntactic};
+ghost use Rattle.monoid_theory.specs.Green.{IsJTrivial};
+ghost use Rattle.level_search.specs.Levels.{Suffices};
+ghost use Rattle.subword_theory.specs.ShortSubwords.{SameSubwords};
+ghost use Rattle.piecewise_testable.specs.Sides.{IsTrivialOn};
+ghost use Rattle.piecewise_testable.specs.Witness.{IsWitness, IsRTrivialAnswer};
+ghost use Rattle.piecewise_testable.specs.Commuting.{IsCommutative, Commute, IsCommutativeWitness, IsCommutativeAnswer};
+ghost use Rattle.piecewise_testable.specs.Answers.{IsPiecewiseAnswer, IsToldApart};
+
+use crate::answer::PtAnswer;
+use crate::witness::{CWitness, PtWitness};
+use language_theory::language::{Language, Relation};
+
+/// For each n the two words of a witness have the same subwords of length at most n, and exactly one of them is in the
+/// language, the first one as `first_in` says. So no level suffices, and the monoid is not trivial on the witness's
+/// side, nor J-trivial.
+pub fn a_witness_is_told_apart_at_every_level<L: Language>()
+    ensures apart { (k n : ℕ) (w : PtWitness) → IsWitness k L.has w → IsToldApart L.has n w }
+    ensures none { (k n : ℕ) (w : PtWitness) → IsWitness k L.has w
+        → ¬ Suffices k L.has (SameSubwords n) }
+    ensures side { (k : ℕ) (w : PtWitness) → IsWitness k L.has w
+        → ¬ IsTrivialOn w.side k (Syntactic k L.has) }
+    ensures not_trivial { (k : ℕ) (w : PtWitness) → IsWitness k L.has w
+        → ¬ IsJTrivial k (Syntactic k L.has) }
+{}
+
+/// With the answer `Yes` this level suffices, and no smaller one does. With `NoneTo` no level up to this one does, and
+/// with `No` none at all.
+pub fn yes_is_the_least_level_that_suffices<L: Language>()
+    ensures yes { (k most last n : ℕ) → IsPiecewiseAnswer k L.has most last (PtAnswer.Yes n)
+        → Suffices k L.has (SameSubwords n) }
+    ensures least { (k most last n m : ℕ) → IsPiecewiseAnswer k L.has most last (PtAnswer.Yes n)
+        → m < n → ¬ Suffices k L.has (SameSubwords m) }
+    ensures none { (k most last n m : ℕ) → IsPiecewiseAnswer k L.has most last (PtAnswer.NoneTo n)
+        → m ≤ n → ¬ Suffices k L.has (SameSubwords m) }
+    ensures no { (k most last m : ℕ) (w : PtWitness)
+        → IsPiecewiseAnswer k L.has most last (PtAnswer.No w)
+        → ¬ Suffices k L.has (SameSubwords m) }
+{}
+
+/// Elements commute exactly where letters do, and a monoid with a witness is not commutative.
+pub fn letters_tell_commutative_monoids<R: Relation, L: Language>()
+    ensures letters { (k : ℕ) → IsCongruence k R.same → IsCommutative k R.same
+        ↔ ((a b : ℕ) → a < k → b < k → Commute R.same a b) }
+    ensures witness { (k : ℕ) (w : CWitness) → IsCommutativeWitness k L.has w
+        → ¬ IsCommutative k (Syntactic k L.has) }
+{}
+
+/// A language has one answer of each kind.
+pub fn a_language_has_one_answer<L: Language>()
+    ensures piecewise { (k most last : ℕ) (a b : PtAnswer) → IsPiecewiseAnswer k L.has most last a
+        → IsPiecewiseAnswer k L.has most last b → a ≡ b }
+    ensures r_trivial { (k : ℕ) (a b : Option PtWitness) → IsRTrivialAnswer k L.has a
+        → IsRTrivialAnswer k L.has b → a ≡ b }
+    ensures commutative { (k : ℕ) (a b : Option CWitness) → IsCommutativeAnswer k L.has a
+        → IsCommutativeAnswer k L.has b → a ≡ b }
+{}
+
+/// Languages with the same words over k letters have the same answers.
+pub fn languages_with_the_same_words_have_one_answer<L: Language, M: Language>()
+    ensures piecewise { (k most last : ℕ) (a : PtAnswer) → HaveSameWords k L.has M.has
+        → IsPiecewiseAnswer k L.has most last a → IsPiecewiseAnswer k M.has most last a }
+    ensures r_trivial { (k : ℕ) (a : Option PtWitness) → HaveSameWords k L.has M.has
+        → IsRTrivialAnswer k L.has a → IsRTrivialAnswer k M.has a }
+    ensures commutative { (k : ℕ) (a : Option CWitness) → HaveSameWords k L.has M.has
+        → IsCommutativeAnswer k L.has a → IsCommutativeAnswer k M.has a }
+{}
