@@ -4,6 +4,7 @@ use Rattle.language_theory.specs.Languages.{HaveSameWords}
 use Rattle.language_theory.specs.Congruence.{Syntactic}
 use Rattle.language_theory.specs.Nerode.{MinimalAutomaton, IsMinimal, accepted}
 use Rattle.language_theory.proofs.Congruences.{syntactic_congruence, syntactic_agrees}
+use Rattle.language_theory.proofs.Minimal.{agreeing_minimal}
 use Rattle.monoid_theory.specs.Green.{IsRTrivial, IsJTrivial}
 use Rattle.monoid_theory.proofs.Agreeing.{j_agrees}
 use Rattle.monoid_theory.proofs.FiniteIdeals.{j_trivial_by_sides}
@@ -13,7 +14,8 @@ use Rattle.level_search.specs.Levels.{IsAnswer, Suffices}
 use Rattle.level_search.proofs.Answering.{answer_agrees, none_suffices}
 use Rattle.subword_theory.specs.ShortSubwords.{SameSubwords}
 use Rattle.subword_theory.specs.SubwordRows.{width}
-use Rattle.syntactic_monoid.specs.SyntacticMonoid.{SyntacticMonoid, recognised, IsSyntactic}
+use Rattle.syntactic_monoid.specs.SyntacticMonoid.{SyntacticMonoid, recognised, IsSyntactic, IsSyntacticMonoid}
+use Rattle.syntactic_monoid.proofs.OneMonoid.{same_words}
 use Rattle.piecewise_testable.specs.declared.witness.Side.{Side}
 use Rattle.piecewise_testable.specs.declared.witness.Side.TheVariants.{Right, Left}
 use Rattle.piecewise_testable.specs.declared.witness.PtWitness.{PtWitness}
@@ -66,6 +68,14 @@ module _ (k : ℕ) (L M : List ℕ → Type 0) (a : HaveSameWords k L M) (most l
   piecewise_answer_agrees (answer.Wide n) h = trivial_answer_agrees (level.Wide n) h
   piecewise_answer_agrees (answer.Pairs n) h = trivial_answer_agrees (level.Pairs n) h
   piecewise_answer_agrees (answer.NoneTo n) h = trivial_answer_agrees (level.NoneTo n) h
+
+-- the minimal automaton of a language is that of what its monoid recognises
+pub minimal_fits : (k : ℕ) (L : List ℕ → Type 0) (m : SyntacticMonoid) (d : MinimalAutomaton)
+    → IsSyntacticMonoid k L m → IsMinimal k L d
+    → IsMinimal m.graphs.right.letters (recognised m) d
+minimal_fits k L m d h n =
+    subst (λ (i : ℕ). IsMinimal i (recognised m) d) (sym h.graphs.right.letters)
+    (agreeing_minimal k L (recognised m) d (same_words k L m h) n)
 
 -- ---- levels that suffice
 

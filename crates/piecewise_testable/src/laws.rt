@@ -2,7 +2,9 @@
 ghost use Rattle.std.specs.Prelude.{◌≡◌, ◌<◌, ◌≤◌, ◌↔◌, ℕ, List, Option};
 ghost use Rattle.language_theory.specs.Languages.{HaveSameWords};
 ghost use Rattle.language_theory.specs.Congruence.{IsCongruence, Syntactic};
+ghost use Rattle.language_theory.specs.Nerode.{MinimalAutomaton, IsMinimal};
 ghost use Rattle.monoid_theory.specs.Green.{IsJTrivial};
+ghost use Rattle.syntactic_monoid.specs.SyntacticMonoid.{SyntacticMonoid, IsSyntacticMonoid, recognised};
 ghost use Rattle.level_search.specs.Levels.{Suffices};
 ghost use Rattle.subword_theory.specs.ShortSubwords.{SameSubwords};
 ghost use Rattle.piecewise_testable.specs.Sides.{IsTrivialOn};
@@ -67,4 +69,11 @@ pub fn languages_with_the_same_words_have_one_answer<L: Language, M: Language>()
         → IsRTrivialAnswer k L.has a → IsRTrivialAnswer k M.has a }
     ensures commutative { (k : ℕ) (a : Option CWitness) → HaveSameWords k L.has M.has
         → IsCommutativeAnswer k L.has a → IsCommutativeAnswer k M.has a }
+{}
+
+/// The minimal automaton of a language is that of the language that its syntactic monoid recognises, as `piecewise`
+/// wants it.
+pub fn the_minimal_automaton_fits_the_monoid<L: Language>()
+    ensures { (k : ℕ) (m : SyntacticMonoid) (d : MinimalAutomaton) → IsSyntacticMonoid k L.has m
+        → IsMinimal k L.has d → IsMinimal m.graphs.right.letters (recognised m) d }
 {}

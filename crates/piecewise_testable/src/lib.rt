@@ -10,6 +10,8 @@ mod rounds;
 mod rows;
 mod sides;
 mod subwords;
+#[cfg(test)]
+mod tests;
 mod trivial;
 mod witness;
 
