@@ -1,0 +1,106 @@
+//! Whether a language is locally testable.
+ghost use Rattle.std.specs.Prelude.{◌≡◌, ◌≤◌, is_some, option_map, IfSome, IfOk};
+ghost use Rattle.language_theory.specs.Nerode.{accepted};
+ghost use Rattle.parallel_table.specs.ProductTables.{IsTableOf};
+ghost use Rattle.syntactic_monoid.specs.SyntacticMonoid.{IsSyntacticMonoid, recognised};
+ghost use Rattle.locally_testable.specs.Answer.{IsLocalAnswer, IsFound, Tells};
+
+use crate::factors::Factors;
+use crate::submonoids::first_flaw;
+use crate::witness::LtWitness;
+use crate::witnessing::witness_of;
+use crate::work::{MOST_WORK, local_work};
+use level_search::{Level, MOST_LEVEL, MOST_PAIRS, search};
+use parallel_table::Table;
+use std::alloc::Global;
+use subset_minimal::MinDfa;
+use syn_words::Memory;
+use syntactic_monoid::Syntactic;
+
+/// Whether a language is locally testable, within limits.
+#[derive(Drop)]
+pub enum LtAnswer {
+    /// This level suffices, and no smaller one from 1 on does.
+    Yes(u32),
+    /// The language is not locally testable: its local submonoids are not all idempotent and commutative.
+    No(LtWitness),
+    /// There is no table of products.
+    TableLimit,
+    /// The local work is greater than `MOST_WORK`.
+    WorkLimit,
+    /// This level is too wide, and no smaller one suffices.
+    Wide(u32),
+    /// This level has too many pairs of a Nerode class and a key, and no smaller one suffices.
+    Pairs(u32),
+    /// No level up to this one suffices.
+    NoneTo(u32),
+}
+
+/// Whether the language of a syntactic monoid and of a minimal automaton is locally testable. `TableLimit` comes
+/// exactly
+/// where no table is given; else `WorkLimit` exactly where the local work, the sum of the squares of the sizes of the
+/// local submonoids `e M e` over all idempotent classes e of nonempty words, is greater than `MOST_WORK`; else `No`
+/// exactly where some such `e M e` is not idempotent and commutative, with the least witness; else the answer is that
+/// of
+/// the search through the levels of `Factors` from 1 to `max_level`, each with at most `max_pairs` pairs.
+///
+/// Conditions: the monoid is that of the automaton's language, a given table is filled for it,
+/// `1 <= max_level <= MOST_LEVEL` and `max_pairs <= MOST_PAIRS`.
+pub fn local(
+    alloc: Global,
+    monoid: &Syntactic,
+    table: Option<&Table>,
+    dfa: &MinDfa,
+    max_level: u32,
+    max_pairs: u32,
+) -> Result<LtAnswer, Memory>
+    requires language { IsSyntacticMonoid dfa.now.graph.letters (accepted dfa.now) monoid.now }
+    requires table { IfSome (option_map (λ t. t.now) table) (λ t. IsTableOf monoid.now.graphs t) }
+    requires from_first { 1 ≤ max_level }
+    requires to_greatest { max_level ≤ MOST_LEVEL }
+    requires pairs { max_pairs ≤ MOST_PAIRS }
+    ensures answer { IfOk result (IsLocalAnswer dfa.now.graph.letters (accepted dfa.now)
+        monoid.now.graphs.words (is_some table.entry) max_level max_pairs) }
+    ensures tells { IfOk result (Tells dfa.now.graph.letters (accepted dfa.now)) }
+{
+    let Some(table) = table else {
+        return Ok(LtAnswer::TableLimit);
+    };
+    // Its contract tells that this is the syntactic monoid of the language that it recognises.
+    let _elements = monoid.cayley();
+    if local_work(alloc, monoid, table)? > MOST_WORK {
+        return Ok(LtAnswer::WorkLimit);
+    }
+    match first_flaw(alloc, monoid, table)? {
+        Some((e, flaw)) => {
+            let witness = witness_of(alloc, monoid, e, flaw)?;
+            Ok(LtAnswer::No(witness))
+        }
+        None => {
+            let answer = search_levels(alloc, dfa, max_level, max_pairs)?;
+            Ok(answer)
+        }
+    }
+}
+
+/// The answer of the search through the levels of `Factors` from 1 on. Conditions: as of `search`.
+fn search_levels(
+    alloc: Global,
+    dfa: &MinDfa,
+    max_level: u32,
+    max_pairs: u32,
+) -> Result<LtAnswer, Memory>
+    requires from_first { 1 ≤ max_level }
+    requires to_greatest { max_level ≤ MOST_LEVEL }
+    requires pairs { max_pairs ≤ MOST_PAIRS }
+    ensures { IfOk result (IsFound dfa.now.graph.letters (accepted dfa.now) max_level max_pairs) }
+{
+    let mut factors = Factors::new(alloc);
+    let found = search(alloc, dfa, &mut factors, 1, max_level, max_pairs)?;
+    Ok(match found {
+        Level::Yes(n) => LtAnswer::Yes(n),
+        Level::Wide(n) => LtAnswer::Wide(n),
+        Level::Pairs(n) => LtAnswer::Pairs(n),
+        Level::NoneTo(n) => LtAnswer::NoneTo(n),
+    })
+}
