@@ -1,18 +1,17 @@
 -- Relations that agree, and languages with the same words, have the same rounds, the same least
 -- contexts and the same witnesses.
-use Rattle.std.proofs.Common.{◌≡◌, ◌↔◌, ℕ, ◌<◌, ◌⊎◌, inl, inr, List, [], ◌∷◌, ◌++◌, arith}
+use Rattle.std.proofs.Common.{◌↔◌, ℕ, ◌<◌, inl, inr, List, [], ◌∷◌, ◌++◌, arith}
 use Rattle.std.specs.Prelude.{Option, Some, None}
 use Rattle.language_theory.specs.Words.{Over}
-use Rattle.language_theory.specs.Languages.{ExactlyOne, IsLeastWord, HaveSameWords}
+use Rattle.language_theory.specs.Languages.{ExactlyOne, HaveSameWords}
 use Rattle.language_theory.specs.Congruence.{Agree, Syntactic}
 use Rattle.language_theory.proofs.Shortlex.{over_append}
-use Rattle.language_theory.proofs.Congruences.{both_directions, other_direction, syntactic_agrees, agree_turned}
-use Rattle.monoid_theory.specs.Green.{IsTrivial}
+use Rattle.language_theory.proofs.Congruences.{both_directions, other_direction, syntactic_agrees}
 use Rattle.monoid_theory.specs.Separation.{Separates, CanSeparate, IsSeparation}
 use Rattle.piecewise_testable.specs.declared.witness.Side.{Side}
 use Rattle.piecewise_testable.specs.declared.witness.PtWitness.{PtWitness}
 use Rattle.piecewise_testable.specs.declared.witness.CWitness.{CWitness}
-use Rattle.piecewise_testable.specs.Sides.{beside, IsMate, IsTrivialOn, IsOther, HasOther, Moves, Leads, IsLeastLetter, IsRound}
+use Rattle.piecewise_testable.specs.Sides.{beside, IsTrivialOn, IsOther, HasOther, Moves, Leads, IsLeastLetter, IsRound}
 use Rattle.piecewise_testable.specs.Witness.{IsWitness, IsAnswerOn}
 use Rattle.piecewise_testable.specs.Commuting.{IsCommutative, Commute, HasSwap, IsCommutativeWitness, IsCommutativeAnswer}
 use Rattle.piecewise_testable.proofs.BothSides.{over_beside, mates_agree_on}

@@ -1,5 +1,5 @@
 -- Answers of languages with the same words, and the answer that the parts of a search make.
-use Rattle.std.proofs.Common.{◌≡◌, ◌↔◌, ℕ, ◌≤◌, List, subst, sym, refl, arith}
+use Rattle.std.proofs.Common.{◌≡◌, ℕ, ◌≤◌, List, subst, sym, arith}
 use Rattle.language_theory.specs.Languages.{HaveSameWords}
 use Rattle.language_theory.specs.Congruence.{Syntactic}
 use Rattle.language_theory.specs.Nerode.{MinimalAutomaton, IsMinimal, accepted}
@@ -10,7 +10,7 @@ use Rattle.monoid_theory.proofs.Agreeing.{j_agrees}
 use Rattle.monoid_theory.proofs.FiniteIdeals.{j_trivial_by_sides}
 use Rattle.level_search.specs.declared.level.Level.{Level}
 use Rattle.level_search.specs.declared.level.Level.TheVariants as level
-use Rattle.level_search.specs.Levels.{IsAnswer, Suffices}
+use Rattle.level_search.specs.Levels.{Suffices}
 use Rattle.level_search.proofs.Answering.{answer_agrees, none_suffices}
 use Rattle.subword_theory.specs.ShortSubwords.{SameSubwords}
 use Rattle.subword_theory.specs.SubwordRows.{width}
@@ -113,8 +113,7 @@ pub answer_of_search : (m : SyntacticMonoid) → IsSyntactic m → (d : MinimalA
     → IsLevel d.graph.letters (accepted d) most last l
     → IsPiecewiseAnswer m.graphs.right.letters (recognised m) most last (answer_of l)
 answer_of_search m h d minimal most last l r t a =
-    level_is_answer m.graphs.right.letters (recognised m) most last l
-    (
+    level_is_answer m.graphs.right.letters (recognised m) most last l (
       j_trivial_by_sides m.graphs.right.letters
           (Syntactic m.graphs.right.letters (recognised m)) m.graphs.words
           (syntactic_congruence m.graphs.right.letters (recognised m)) h.monoid.graphs.words r t,

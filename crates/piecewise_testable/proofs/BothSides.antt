@@ -1,7 +1,7 @@
 -- What holds on either side: classes are those of an equivalence, and words put beside related
 -- words are related.
-use Rattle.std.proofs.Common.{◌≡◌, ◌↔◌, ℕ, ◌<◌, List, [], ◌∷◌, ◌++◌, length, sym, subst, append_assoc}
-use Rattle.language_theory.specs.Words.{Over, word_at}
+use Rattle.std.proofs.Common.{ℕ, List}
+use Rattle.language_theory.specs.Words.{Over}
 use Rattle.language_theory.specs.Congruence.{IsEquivalence, IsCongruence, Agree}
 use Rattle.language_theory.proofs.Shortlex.{over_append}
 use Rattle.language_theory.proofs.Congruences.{right_congruence}

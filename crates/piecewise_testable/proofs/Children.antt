@@ -1,10 +1,10 @@
--- The row of a word with a letter behind it, as it is made from the marked places one after another.
-use Rattle.std.proofs.Common.{◌≡◌, ◌≢◌, ◌↔◌, ◌⊎◌, inl, inr, ℕ, ◌+◌, ◌*◌, ◌<◌, ◌≤◌, Bool, true, false, IsTrue, List, length, set, refl, ap, sym, subst, ◌∙◌, arith, mul-le-mul_right}
+-- The row of a word with a letter behind it, made from the marked places one after another.
+use Rattle.std.proofs.Common.{◌≡◌, ◌≢◌, ◌↔◌, ◌⊎◌, inl, inr, ℕ, ◌+◌, ◌<◌, ◌≤◌, Bool, true, false, IsTrue, List, length, set, ap, sym, subst, ◌∙◌, arith, mul-le-mul_right}
 use Rattle.std.proofs.lemmas.Bool.{cases_lt}
 use Rattle.std.proofs.lemmas.List.{length-set, get_or-set_other, get_or-set_same}
 use Rattle.language_theory.specs.Automaton.{is_marked}
 use Rattle.language_theory.proofs.Numbers.{equal_or_not}
-use Rattle.number_set.specs.Marks.{IsNextMember, IsBare}
+use Rattle.number_set.specs.Marks.{IsNextMember}
 use Rattle.subword_theory.specs.SubwordRows.{child, next_row}
 use Rattle.subword_theory.proofs.Rows.{IsNextMark, next_row_known}
 
@@ -92,7 +92,8 @@ child_added k a row new from p h m inside = record {
             inr (i, before i b u f (cases_lt i from) (cases_lt i p), u, f)
 
 -- where no further marked place gives a place of the row, all is done
-all_children : (k a : ℕ) (row new : List Bool) (from : ℕ) → a < k → AreChildrenBelow k a row from new
+all_children : (k a : ℕ) (row new : List Bool) (from : ℕ) → a < k
+    → AreChildrenBelow k a row from new
     → ((p : ℕ) → from ≤ p → IsTrue (is_marked row p) → length row ≤ child k p a)
     → new ≡ next_row k a row
 all_children k a row new from l h beyond =

@@ -1,12 +1,11 @@
 -- The first listed word with a property that related words share is the least word with it.
-use Rattle.std.proofs.Common.{◌≡◌, ◌↔◌, ℕ, ◌<◌, ◌≤◌, ◌⊎◌, inl, inr, List, length, sym, subst, arith}
+use Rattle.std.proofs.Common.{◌≡◌, ◌↔◌, ℕ, ◌<◌, ◌≤◌, ◌⊎◌, inl, inr, List, length, subst, arith}
 use Rattle.std.proofs.lemmas.Bool.{cases_lt}
 use Rattle.language_theory.specs.Words.{Over, ◌⊏◌, word_at}
 use Rattle.language_theory.specs.Languages.{IsLeastWord}
 use Rattle.language_theory.specs.Congruence.{IsEquivalence}
 use Rattle.language_theory.specs.Representatives.{AreRepresentatives}
 use Rattle.language_theory.proofs.Shortlex.{shortlex_trans}
-use Rattle.language_theory.proofs.Numbers.{equal_or_not}
 
 -- two properties that agree on words over k letters have the same least words
 pub least_word_again : (k : ℕ) (P Q : List ℕ → Type 0) (w : List ℕ)

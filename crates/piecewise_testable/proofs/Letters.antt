@@ -1,9 +1,9 @@
 -- Where an element has another one in its class, some letter leads to another one, and some word
 -- leads back.
 use Rattle.std.proofs.Common.{◌≡◌, ℕ, ◌<◌, ◌⊎◌, inl, inr, List, [], ◌∷◌, ◌++◌, sym, subst, append_assoc, append-nil}
-use Rattle.language_theory.specs.Words.{Over, word_at}
-use Rattle.language_theory.specs.Congruence.{IsCongruence, IsEquivalence}
-use Rattle.language_theory.specs.Representatives.{AreRepresentatives, IsPlaceOf}
+use Rattle.language_theory.specs.Words.{Over}
+use Rattle.language_theory.specs.Congruence.{IsCongruence}
+use Rattle.language_theory.specs.Representatives.{AreRepresentatives}
 use Rattle.language_theory.proofs.Shortlex.{over_append}
 use Rattle.language_theory.proofs.Representatives.{related_or_not}
 use Rattle.piecewise_testable.specs.declared.witness.Side.{Side}
@@ -28,7 +28,8 @@ module _ (k : ℕ) (same : List ℕ → List ℕ → Type 0) (q : IsCongruence k
       → same s ((s ++ x) ++ y) → IsMoved Right s
   behind s [] y os ox oy n h = absurd (n (equal s (s ++ []) os (sym (append-nil s))))
   behind s (b ∷ x) y os ox oy n h =
-      by (decided s (s ++ b ∷ []) os (over_append k s (b ∷ []) os (ox.0, tt))) (behind s x y os ox.1 oy)
+      by (decided s (s ++ b ∷ []) os (over_append k s (b ∷ []) os (ox.0, tt)))
+      (behind s x y os ox.1 oy)
     where
       ob : Over k (s ++ b ∷ [])
       ob = over_append k s (b ∷ []) os (ox.0, tt)
@@ -111,13 +112,15 @@ module _ (k : ℕ) (same : List ℕ → List ℕ → Type 0) (q : IsCongruence k
   some_letter Right s os (t, ot, (((y, oy, h), (x, ox, g)), n)) =
       let ogo = over_append k s x os ox in
       behind s x y os ox oy
-      (λ f. n (q.equivalence.trans s (s ++ x) t os ogo ot f (q.equivalence.symm t (s ++ x) ot ogo g)))
+      (λ f. n (q.equivalence.trans s (s ++ x) t os ogo ot f
+      (q.equivalence.symm t (s ++ x) ot ogo g)))
       (q.equivalence.trans s (t ++ y) ((s ++ x) ++ y) os (over_append k t y ot oy)
       (over_append k (s ++ x) y ogo oy) h (q.right t (s ++ x) y ot ogo oy g))
   some_letter Left s os (t, ot, (((y, oy, h), (x, ox, g)), n)) =
       let ogo = over_append k x s ox os in
       before s x y os ox oy
-      (λ f. n (q.equivalence.trans s (x ++ s) t os ogo ot f (q.equivalence.symm t (x ++ s) ot ogo g)))
+      (λ f. n (q.equivalence.trans s (x ++ s) t os ogo ot f
+      (q.equivalence.symm t (x ++ s) ot ogo g)))
       (q.equivalence.trans s (y ++ t) (y ++ (x ++ s)) os (over_append k y t oy ot)
       (over_append k y (x ++ s) oy ogo) h (q.left t (x ++ s) y ot ogo oy g))
 

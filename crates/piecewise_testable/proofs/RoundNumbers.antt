@@ -2,13 +2,13 @@
 use Rattle.std.proofs.Common.{◌≡◌, ◌↔◌, ℕ, ◌<◌, List, [], ◌∷◌, length, sym, subst}
 use Rattle.language_theory.specs.Words.{Over, word_at}
 use Rattle.language_theory.specs.Languages.{IsLeastWord}
-use Rattle.language_theory.specs.Congruence.{IsCongruence, IsEquivalence}
+use Rattle.language_theory.specs.Congruence.{IsCongruence}
 use Rattle.language_theory.specs.Representatives.{AreRepresentatives, IsPlaceOf}
 use Rattle.piecewise_testable.specs.declared.witness.Side.{Side}
-use Rattle.piecewise_testable.specs.Sides.{beside, IsMate, HasOther, Moves, Leads, IsLeastLetter, IsRound}
+use Rattle.piecewise_testable.specs.Sides.{beside, IsMate, HasOther, Moves, Leads, IsLeastLetter}
 use Rattle.piecewise_testable.specs.declared.rounds.Round.{Round}
 use Rattle.piecewise_testable.specs.Rounds.{IsRoundOf}
-use Rattle.piecewise_testable.proofs.BothSides.{over_beside, beside_related, related_beside}
+use Rattle.piecewise_testable.proofs.BothSides.{over_beside, related_beside}
 use Rattle.piecewise_testable.proofs.Searches.{HasNone}
 use Rattle.piecewise_testable.proofs.LeastPlaces.{least_word_again, place_has, least_by_place}
 use Rattle.piecewise_testable.proofs.Letters.{some_back, leads_from_related}

@@ -8,7 +8,6 @@ use Rattle.cayley_tables.specs.CayleyGraphs.{CayleyGraphs}
 use Rattle.cayley_tables.proofs.AgreeingGraphs.{graphs_agree}
 use Rattle.syntactic_monoid.specs.SyntacticMonoid.{SyntacticMonoid, recognised, IsSyntactic}
 use Rattle.piecewise_testable.specs.declared.witness.Side.{Side}
-use Rattle.piecewise_testable.specs.declared.witness.PtWitness.{PtWitness}
 use Rattle.piecewise_testable.specs.declared.rounds.Round.{Round}
 use Rattle.piecewise_testable.specs.declared.parting.Parting.{Parting}
 use Rattle.piecewise_testable.specs.Sides.{beside, IsTrivialOn}

@@ -1,12 +1,11 @@
 -- The witness of letters that do not commute, in the words of the language.
-use Rattle.std.proofs.Common.{◌≡◌, ℕ, ◌<◌, List, [], ◌∷◌, length, sym, ap, subst, ◌∙◌, arith}
+use Rattle.std.proofs.Common.{◌≡◌, ℕ, ◌<◌, List, [], ◌∷◌, length, ap, subst, ◌∙◌, arith}
 use Rattle.language_theory.specs.Words.{Over, word_at}
 use Rattle.language_theory.specs.Congruence.{Syntactic}
 use Rattle.language_theory.specs.ShortlexGraph.{node, SameNode}
-use Rattle.language_theory.proofs.Congruences.{both_directions, syntactic_congruence}
+use Rattle.language_theory.proofs.Congruences.{both_directions}
 use Rattle.cayley_tables.specs.CayleyGraphs.{CayleyGraphs}
 use Rattle.syntactic_monoid.specs.SyntacticMonoid.{SyntacticMonoid, recognised, IsSyntactic}
-use Rattle.piecewise_testable.specs.declared.witness.CWitness.{CWitness}
 use Rattle.piecewise_testable.specs.declared.parting.Parting.{Parting}
 use Rattle.piecewise_testable.specs.Sides.{IsLeastLetter}
 use Rattle.piecewise_testable.specs.Commuting.{IsCommutative, Commute, HasSwap, IsCommutativeWitness}
@@ -82,7 +81,9 @@ module _ (m : SyntacticMonoid) (h : IsSyntactic m) where
 
       one : Syntactic m.graphs.right.letters (recognised m) (word_at m.graphs.words i)
           (a ∷ b ∷ [])
-      one = word_of_element c e (a ∷ b ∷ []) i (first.within, (second.within, tt)) (within i hi) s.one
+      one =
+          word_of_element c e (a ∷ b ∷ []) i (first.within, (second.within, tt)) (within i hi)
+          s.one
 
       other : Syntactic m.graphs.right.letters (recognised m) (word_at m.graphs.words j)
           (b ∷ a ∷ [])

@@ -1,10 +1,10 @@
 -- The two words of a witness are told apart at every level.
-use Rattle.std.proofs.Common.{◌≡◌, ◌↔◌, ℕ, zero, suc, ◌⊎◌, inl, inr, List, [], ◌∷◌, ◌++◌, sym, subst, append_assoc, append-nil}
+use Rattle.std.proofs.Common.{◌↔◌, ℕ, zero, suc, inl, inr, List, [], ◌∷◌, ◌++◌, sym, subst, append_assoc, append-nil}
 use Rattle.language_theory.specs.Words.{Over, power}
 use Rattle.language_theory.specs.Languages.{ExactlyOne}
 use Rattle.language_theory.specs.Congruence.{IsCongruence, Syntactic}
 use Rattle.language_theory.proofs.Shortlex.{over_append}
-use Rattle.language_theory.proofs.Congruences.{both_directions, other_direction, syntactic_congruence}
+use Rattle.language_theory.proofs.Congruences.{both_directions, syntactic_congruence}
 use Rattle.monoid_theory.specs.Green.{IsJTrivial}
 use Rattle.monoid_theory.proofs.Exponents.{over_power}
 use Rattle.monoid_theory.proofs.FiniteIdeals.{r_trivial_by_j, l_trivial_by_j}
@@ -16,7 +16,7 @@ use Rattle.piecewise_testable.specs.declared.witness.Side.{Side}
 use Rattle.piecewise_testable.specs.declared.witness.Side.TheVariants.{Right, Left}
 use Rattle.piecewise_testable.specs.declared.witness.PtWitness.{PtWitness}
 use Rattle.piecewise_testable.specs.Sides.{beside, IsTrivialOn, Leads}
-use Rattle.piecewise_testable.specs.Witness.{IsWitness, AreToldApart, pumped, first_word, second_word}
+use Rattle.piecewise_testable.specs.Witness.{IsWitness, pumped, first_word, second_word}
 use Rattle.piecewise_testable.specs.Answers.{IsToldApart}
 use Rattle.piecewise_testable.proofs.BothSides.{over_beside, beside_related}
 use Rattle.piecewise_testable.proofs.Agreeing.{one_again}

@@ -1,6 +1,6 @@
 -- Commutative monoids, and letters that do not commute. Which letters and which context stand for
 -- all, the least ones, is this project's choice.
-use Rattle.std.specs.Prelude.{◌≡◌, ◌<◌, ◌++◌, ◌↔◌, ℕ, IsTrue, List, [], ◌∷◌, Option, Some, None}
+use Rattle.std.specs.Prelude.{◌<◌, ◌++◌, ◌↔◌, ℕ, IsTrue, List, [], ◌∷◌, Option, Some, None}
 use Rattle.language_theory.specs.Words.{Over}
 use Rattle.language_theory.specs.Congruence.{Syntactic}
 use Rattle.monoid_theory.specs.Separation.{IsSeparation}

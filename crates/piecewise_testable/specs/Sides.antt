@@ -1,6 +1,6 @@
 -- Products on the two sides of an element, and the elements that they can be undone from: Green's
 -- relation R on the right, L on the left (Green 1951).
-use Rattle.std.specs.Prelude.{◌≡◌, ◌<◌, ◌++◌, ℕ, List, [], ◌∷◌}
+use Rattle.std.specs.Prelude.{◌<◌, ◌++◌, ℕ, List, [], ◌∷◌}
 use Rattle.language_theory.specs.Words.{Over}
 use Rattle.language_theory.specs.Languages.{IsLeastWord}
 use Rattle.monoid_theory.specs.Green.{IsR, IsL, IsTrivial}

@@ -1,10 +1,9 @@
 -- Words that no level of short subwords tells apart, of a language whose monoid is not R-trivial,
 -- or not L-trivial. Which words stand for all, the least ones, is this project's choice.
-use Rattle.std.specs.Prelude.{◌≡◌, ◌++◌, ◌↔◌, ⊤, ℕ, IsTrue, List, [], ◌∷◌, Option, Some, None}
+use Rattle.std.specs.Prelude.{◌≡◌, ◌++◌, ◌↔◌, ℕ, IsTrue, List, [], ◌∷◌, Option, Some, None}
 use Rattle.language_theory.specs.Words.{power}
 use Rattle.language_theory.specs.Languages.{ExactlyOne}
 use Rattle.language_theory.specs.Congruence.{Syntactic}
-use Rattle.monoid_theory.specs.Green.{IsRTrivial}
 use Rattle.monoid_theory.specs.Separation.{IsSeparation}
 use Rattle.subword_theory.specs.ShortSubwords.{SameSubwords}
 use Rattle.piecewise_testable.specs.declared.witness.Side.{Side}

@@ -64,7 +64,11 @@ fn first_other(side: Side, cayley: &Cayley, green: &Green) -> Option<u32>
             first = first.min(least);
         }
     }
-    if first < cayley.len() { Some(first) } else { None }
+    if first < cayley.len() {
+        Some(first)
+    } else {
+        None
+    }
 }
 
 /// The least letter that leads from an element to another one of its class. Conditions: the element is in range, and

@@ -2,6 +2,7 @@
 ghost use Rattle.std.specs.Prelude.{◌≡◌, ◌<◌, ◌≤◌, false, true, length, replicate, slice_set, IfOk};
 ghost use Rattle.subword_theory.specs.SubwordRows.{next_row};
 
+use level_search::MOST_WIDTH;
 use number_set::NumberSet;
 use std::alloc::Global;
 use syn_words::Memory;
@@ -16,13 +17,13 @@ pub(crate) fn first_row(alloc: Global, width: u32) -> Result<NumberSet, Memory>
     Ok(row)
 }
 
-/// The row of a word with a letter behind it. Conditions: the row is not wider than a level may be, there are at most
-/// 60 letters, and the letter is in range.
+/// The row of a word with a letter behind it. Conditions: the row is not wider than `MOST_WIDTH`, there are at most 60
+/// letters, and the letter is in range.
 ///
 /// The places of words with the letter behind them rise with those of the words, so the walk ends with the first place
 /// beyond the row.
 pub(crate) fn next_row(row: &NumberSet, letters: u32, letter: u8) -> Result<NumberSet, Memory>
-    requires narrow { length row.now ≤ 32768 }
+    requires narrow { length row.now ≤ MOST_WIDTH }
     requires few_letters { letters ≤ 60 }
     requires letter { letter < letters }
     ensures { IfOk result (λ next. next ≡ next_row letters letter row.now) }

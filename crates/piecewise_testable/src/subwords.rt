@@ -142,7 +142,8 @@ impl Quotient for Subwords {
     }
 }
 
-/// The number of words of a length or less over some letters, if it is at most `MOST_WIDTH`. Condition: 1 to 60 letters.
+/// The number of words of a length or less over some letters, if it is at most `MOST_WIDTH`. Condition: 1 to 60
+/// letters.
 fn width_within(letters: u32, level: u32) -> Option<u32>
     requires some_letters { 1 ≤ letters }
     requires few_letters { letters ≤ 60 }

@@ -16,9 +16,9 @@ use syn_outside::OpenGate;
 use syn_words::{Memory, Nfa, Word};
 use syntactic_monoid::{Syntactic, syntactic_of};
 
-/// An automaton over ab with the states 0 and 1 and the one initial state 0.
-fn two_states(alloc: Global) -> Result<Nfa, Memory> {
-    let mut nfa = Nfa::new(alloc, 2, 2)?;
+/// An automaton over ab that accepts no word.
+fn empty_language(alloc: Global) -> Result<Nfa, Memory> {
+    let mut nfa = Nfa::new(alloc, 1, 2)?;
     nfa.set_initial(0);
     Ok(nfa)
 }
@@ -130,7 +130,11 @@ fn sign(first_in: bool) -> u8 {
 /// The side of a witness, its words u, s, the letter, y and v, and whether the first word is in the language.
 fn witness_text(alloc: Global, witness: &PtWitness) -> Result<Vec<u8>, Memory> {
     let mut text = Vec::new(alloc);
-    text.push(if witness.side == Side::Right { b'R' } else { b'L' })?;
+    text.push(if witness.side == Side::Right {
+        b'R'
+    } else {
+        b'L'
+    })?;
     text.push(b' ')?;
     say_word(&mut text, &witness.u)?;
     say_word(&mut text, &witness.s)?;
@@ -248,7 +252,7 @@ fn begins_with_a_is_not_piecewise_testable(rt: HostRuntime) -> Result<(), Fail> 
 
 #[test]
 fn empty_language_needs_no_subwords(rt: HostRuntime) -> Result<(), Fail> {
-    let text = piecewise_text(&rt, rt.alloc(), &two_states(rt.alloc())?, 8, 1000)?;
+    let text = piecewise_text(&rt, rt.alloc(), &empty_language(rt.alloc())?, 8, 1000)?;
     assert_eq!(rt; text.as_slice(), b"Y0".as_slice());
     Ok(())
 }

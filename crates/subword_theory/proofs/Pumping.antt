@@ -46,7 +46,8 @@ letters_of_power (suc n) w =
 pub power_behind : (n : ℕ) (x y : List ℕ)
     → SameSubwords n (power n (x ++ y)) (power n (x ++ y) ++ x)
 power_behind n x y =
-    same_of_subword n (power n (x ++ y)) (power n (x ++ y) ++ x) (subword_front (power n (x ++ y)) x)
+    same_of_subword n (power n (x ++ y)) (power n (x ++ y) ++ x)
+    (subword_front (power n (x ++ y)) x)
     (λ z l h. power_has n (x ++ y) z l (letters_of_subword (x ++ y) h letters))
   where
     letters : HasLettersOf (x ++ y) (power n (x ++ y) ++ x)

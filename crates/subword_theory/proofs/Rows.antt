@@ -183,7 +183,10 @@ next_row_of k n a w marks la h = record { long = next_long k a marks ∙ h.long;
     to x o l (inr (p, e, f)) = by (word_at_place k n p (subst (λ (i : ℕ). p < i) h.long within))
       where
         within : p < length marks
-        within = let b = inside x o l in let c : p ≤ p * k = le-mul_of_pos_right {m = k} p (omega arith) in omega arith
+        within =
+            let b = inside x o l in
+            let c : p ≤ p * k = le-mul_of_pos_right {m = k} p (omega arith) in
+            omega arith
 
         by : (y : List ℕ) × IsAt k n p y → IsSubword x (w ++ a ∷ [])
         by (y, at) =

@@ -1,4 +1,3 @@
-use Rattle.std.proofs.Common.{◌≡◌}
 use Rattle.piecewise_testable.proofs.Between.{none_matches, word_in, congruent_elements_by_words}
 use Rattle.piecewise_testable.proofs.parting.part.Goals as goal
 

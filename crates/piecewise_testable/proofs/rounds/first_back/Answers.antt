@@ -1,4 +1,3 @@
-use Rattle.std.proofs.Common.{◌<◌}
 use Rattle.language_theory.specs.Words.{word_at}
 use Rattle.language_theory.specs.ShortlexGraph.{SameNode}
 use Rattle.piecewise_testable.specs.Sides.{Leads}

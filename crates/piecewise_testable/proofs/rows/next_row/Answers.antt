@@ -1,7 +1,7 @@
-use Rattle.std.proofs.Common.{◌≡◌, ◌∙◌, false, ℕ, ◌≤◌, List, Bool, subst, sym, arith}
+use Rattle.std.proofs.Common.{◌≡◌, ◌∙◌, false, ℕ, ◌≤◌, List, Bool, subst, arith}
 use Rattle.language_theory.specs.Automaton.{is_marked}
 use Rattle.number_set.specs.Marks.{IsNextMember}
-use Rattle.piecewise_testable.proofs.Children.{AreChildrenBelow, child_added, children_end, children_whole}
+use Rattle.piecewise_testable.proofs.Children.{child_added, children_end, children_whole}
 use Rattle.piecewise_testable.proofs.rows.next_row.Goals as goal
 
 pub returns-then-child-size : goal.returns-then-child-size

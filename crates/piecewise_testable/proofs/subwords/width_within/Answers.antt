@@ -1,4 +1,4 @@
-use Rattle.std.proofs.Common.{ap, ◌*◌, ◌+◌, ◌∙◌, ℕ, arith}
+use Rattle.std.proofs.Common.{ap, ◌*◌, ◌+◌, ℕ, arith}
 use Rattle.piecewise_testable.proofs.Widths.{width_more, width_above}
 use Rattle.piecewise_testable.proofs.subwords.width_within.Goals as goal
 
