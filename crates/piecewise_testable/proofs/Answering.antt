@@ -23,9 +23,9 @@ use Rattle.piecewise_testable.specs.declared.answer.PtAnswer.{PtAnswer}
 use Rattle.piecewise_testable.specs.declared.answer.PtAnswer.TheVariants as answer
 use Rattle.piecewise_testable.specs.Sides.{IsTrivialOn}
 use Rattle.piecewise_testable.specs.Witness.{IsWitness}
-use Rattle.piecewise_testable.specs.Answers.{IsLevel, IsTrivialAnswer, IsFirstSide, IsRefusal, IsPiecewiseAnswer, answer_of}
+use Rattle.piecewise_testable.specs.Answers.{IsLevel, IsTrivialAnswer, IsFirstSide, IsRefusal, IsPiecewiseAnswer, IsAlwaysToldApart, answer_of}
 use Rattle.piecewise_testable.proofs.Agreeing.{trivial_agrees, witness_agrees}
-use Rattle.piecewise_testable.proofs.ToldApart.{not_j_trivial}
+use Rattle.piecewise_testable.proofs.ToldApart.{not_j_trivial, told_apart}
 use Rattle.piecewise_testable.proofs.OneAnswer.{level_is_answer}
 
 -- ---- languages with the same words
@@ -122,3 +122,12 @@ answer_of_search m h d minimal most last l r t a =
           (record { both = minimal.final }) 0 last l
           (subst (λ (k : ℕ). IsLevel k (accepted d) most last l) minimal.classes.letters a),
     )
+
+-- the witness of an answer is told apart at every level
+pub always_apart : (k : ℕ) (L : List ℕ → Type 0) (most last : ℕ) (a : PtAnswer)
+    → IsPiecewiseAnswer k L most last a → IsAlwaysToldApart L a
+always_apart k L most last (answer.No w) h = λ n. told_apart k L w h.witness n
+always_apart k L most last (answer.Yes n) h = tt
+always_apart k L most last (answer.Wide n) h = tt
+always_apart k L most last (answer.Pairs n) h = tt
+always_apart k L most last (answer.NoneTo n) h = tt

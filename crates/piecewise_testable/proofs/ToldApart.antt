@@ -1,5 +1,6 @@
 -- The two words of a witness are told apart at every level.
 use Rattle.std.proofs.Common.{◌↔◌, ℕ, zero, suc, inl, inr, List, [], ◌∷◌, ◌++◌, sym, subst, append_assoc, append-nil}
+use Rattle.std.specs.Prelude.{Option, Some, None, IfSome}
 use Rattle.language_theory.specs.Words.{Over, power}
 use Rattle.language_theory.specs.Languages.{ExactlyOne}
 use Rattle.language_theory.specs.Congruence.{IsCongruence, Syntactic}
@@ -16,7 +17,7 @@ use Rattle.piecewise_testable.specs.declared.witness.Side.{Side}
 use Rattle.piecewise_testable.specs.declared.witness.Side.TheVariants.{Right, Left}
 use Rattle.piecewise_testable.specs.declared.witness.PtWitness.{PtWitness}
 use Rattle.piecewise_testable.specs.Sides.{beside, IsTrivialOn, Leads}
-use Rattle.piecewise_testable.specs.Witness.{IsWitness, pumped, first_word, second_word}
+use Rattle.piecewise_testable.specs.Witness.{IsWitness, IsAnswerOn, pumped, first_word, second_word}
 use Rattle.piecewise_testable.specs.Answers.{IsToldApart}
 use Rattle.piecewise_testable.proofs.BothSides.{over_beside, beside_related}
 use Rattle.piecewise_testable.proofs.Agreeing.{one_again}
@@ -140,6 +141,12 @@ module _ (k : ℕ) (L : List ℕ → Type 0) (w : PtWitness) (h : IsWitness k L 
   not_trivial_on t =
       h.round.letter.holds.1
       (t.one w.s (beside w.side w.s (w.letter ∷ [])) os os_a h.round.letter.holds.0)
+
+-- a witness that was found is told apart at every level
+pub found_apart : (side : Side) (k : ℕ) (L : List ℕ → Type 0) (found : Option PtWitness)
+    → IsAnswerOn side k L found → IfSome found (λ w. (n : ℕ) → IsToldApart L n w)
+found_apart side k L None h = tt
+found_apart side k L (Some w) h = λ n. told_apart k L w h.1 n
 
 trivial_by_j : (side : Side) (k : ℕ) (same : List ℕ → List ℕ → Type 0) → IsJTrivial k same
     → IsTrivialOn side k same

@@ -52,7 +52,15 @@ answer_of (level.Wide n) = answer.Wide n
 answer_of (level.Pairs n) = answer.Pairs n
 answer_of (level.NoneTo n) = answer.NoneTo n
 
--- the two words of a witness are told apart at each level, and `first_in` says which one is in L
+-- the two words of a witness for n are told apart, and `first_in` says which one is in L
 pub record IsToldApart (L : List ℕ → Type 0) (n : ℕ) (w : PtWitness) : Type 0 where
   pub apart : AreToldApart L n (first_word n w) (second_word n w)
   pub first_in : IsTrue w.first_in ↔ L (first_word n w)
+
+-- a witness, if the answer has one, is told apart at every level
+abbrev pub IsAlwaysToldApart : (List ℕ → Type 0) → PtAnswer → Type 0
+IsAlwaysToldApart L (answer.No w) = (n : ℕ) → IsToldApart L n w
+IsAlwaysToldApart L (answer.Yes n) = ⊤
+IsAlwaysToldApart L (answer.Wide n) = ⊤
+IsAlwaysToldApart L (answer.Pairs n) = ⊤
+IsAlwaysToldApart L (answer.NoneTo n) = ⊤

@@ -4,7 +4,7 @@ ghost use Rattle.language_theory.specs.Nerode.{IsMinimal};
 ghost use Rattle.language_theory.specs.ShortlexGraph.{SameNode};
 ghost use Rattle.green_relations.specs.GreenClasses.{AreGreens};
 ghost use Rattle.syntactic_monoid.specs.SyntacticMonoid.{recognised};
-ghost use Rattle.piecewise_testable.specs.Answers.{IsPiecewiseAnswer};
+ghost use Rattle.piecewise_testable.specs.Answers.{IsPiecewiseAnswer, IsAlwaysToldApart};
 
 use crate::answer::{PtAnswer, level_answer};
 use crate::subwords::Subwords;
@@ -22,6 +22,9 @@ use syntactic_monoid::Syntactic;
 /// J-trivial, the answer is that of the search through the levels of short subwords, from level 0 to `max_level`, in
 /// which a level may have `max_pairs` pairs.
 ///
+/// For each n the two words of a witness have the same subwords of length at most n, and exactly one of them is in the
+/// language, the first one as `first_in` says: so no level suffices.
+///
 /// Conditions: Green's classes are those of the monoid, the automaton is the minimal one of its language,
 /// `max_level <= MOST_LEVEL` and `max_pairs <= MOST_PAIRS`.
 pub fn piecewise(
@@ -37,8 +40,9 @@ pub fn piecewise(
     requires minimal { IsMinimal monoid.now.graphs.right.letters (recognised monoid.now) dfa.now }
     requires level { max_level ≤ MOST_LEVEL }
     requires pairs { max_pairs ≤ MOST_PAIRS }
-    ensures { IfOk result (IsPiecewiseAnswer monoid.now.graphs.right.letters
+    ensures answer { IfOk result (IsPiecewiseAnswer monoid.now.graphs.right.letters
         (recognised monoid.now) max_pairs max_level) }
+    ensures apart { IfOk result (IsAlwaysToldApart (recognised monoid.now)) }
 {
     // Its contract tells that this is the syntactic monoid of the language that it recognises.
     let _cayley = monoid.cayley();

@@ -179,7 +179,7 @@ fn piecewise_text<R: Threads + Sync>(
         return Err(Memory);
     };
     if dfa.len() > 4 {
-        return Ok(Vec::new(alloc));
+        return Err(Memory);
     }
     let monoid = monoid_of(rt, alloc, &dfa)?;
     let green = classes_of(alloc, &monoid)?;
@@ -187,19 +187,19 @@ fn piecewise_text<R: Threads + Sync>(
     answer_text(alloc, &answer)
 }
 
-/// What `r_trivial` answers for such a language; nothing for yes.
+/// What `r_trivial` answers for such a language; `Y0` for yes.
 fn r_trivial_text<R: Threads + Sync>(rt: &R, alloc: Global, nfa: &Nfa) -> Result<Vec<u8>, Memory> {
     let Ok(dfa) = minimal(alloc, nfa, 20) else {
         return Err(Memory);
     };
     if dfa.len() > 4 {
-        return Ok(Vec::new(alloc));
+        return Err(Memory);
     }
     let monoid = monoid_of(rt, alloc, &dfa)?;
     let green = classes_of(alloc, &monoid)?;
     match r_trivial(alloc, &monoid, &green)? {
         Some(witness) => witness_text(alloc, &witness),
-        None => Ok(Vec::new(alloc)),
+        None => level_text(alloc, b'Y', 0),
     }
 }
 
@@ -215,7 +215,7 @@ fn swap_text(alloc: Global, witness: &CWitness) -> Result<Vec<u8>, Memory> {
     Ok(text)
 }
 
-/// What `commutative` answers for such a language; nothing for yes.
+/// What `commutative` answers for such a language; `Y0` for yes.
 fn commutative_text<R: Threads + Sync>(
     rt: &R,
     alloc: Global,
@@ -225,12 +225,12 @@ fn commutative_text<R: Threads + Sync>(
         return Err(Memory);
     };
     if dfa.len() > 4 {
-        return Ok(Vec::new(alloc));
+        return Err(Memory);
     }
     let monoid = monoid_of(rt, alloc, &dfa)?;
     match commutative(alloc, &monoid)? {
         Some(witness) => swap_text(alloc, &witness),
-        None => Ok(Vec::new(alloc)),
+        None => level_text(alloc, b'Y', 0),
     }
 }
 
@@ -303,14 +303,14 @@ fn even_as_is_not_r_trivial(rt: HostRuntime) -> Result<(), Fail> {
 #[test]
 fn begins_with_a_is_r_trivial(rt: HostRuntime) -> Result<(), Fail> {
     let text = r_trivial_text(&rt, rt.alloc(), &begins_with_a(rt.alloc())?)?;
-    assert_eq!(rt; text.as_slice(), b"".as_slice());
+    assert_eq!(rt; text.as_slice(), b"Y0".as_slice());
     Ok(())
 }
 
 #[test]
 fn even_as_is_commutative(rt: HostRuntime) -> Result<(), Fail> {
     let text = commutative_text(&rt, rt.alloc(), &even_as(rt.alloc())?)?;
-    assert_eq!(rt; text.as_slice(), b"".as_slice());
+    assert_eq!(rt; text.as_slice(), b"Y0".as_slice());
     Ok(())
 }
 

@@ -1,9 +1,10 @@
 //! Whether a monoid is R-trivial or L-trivial.
-ghost use Rattle.std.specs.Prelude.{IfOk};
+ghost use Rattle.std.specs.Prelude.{ℕ, IfOk, IfSome};
 ghost use Rattle.language_theory.specs.ShortlexGraph.{SameNode};
 ghost use Rattle.green_relations.specs.GreenClasses.{AreGreens};
 ghost use Rattle.syntactic_monoid.specs.SyntacticMonoid.{recognised};
 ghost use Rattle.piecewise_testable.specs.Witness.{IsAnswerOn, IsRTrivialAnswer};
+ghost use Rattle.piecewise_testable.specs.Answers.{IsToldApart};
 
 use crate::parting::part;
 use crate::rounds::first_round;
@@ -14,7 +15,8 @@ use syn_words::Memory;
 use syntactic_monoid::Syntactic;
 
 /// None exactly where the monoid of the language is R-trivial. Else the words of the least element with another one in
-/// its class of R, as `PtWitness` says; the side is `Right`. Condition: Green's classes are those of the monoid.
+/// its class of R; the side is `Right`. For each n the two words of the witness have the same subwords of length at most
+/// n, and exactly one of them is in the language. Condition: Green's classes are those of the monoid.
 pub fn r_trivial(
     alloc: Global,
     monoid: &Syntactic,
@@ -22,10 +24,13 @@ pub fn r_trivial(
 ) -> Result<Option<PtWitness>, Memory>
     requires green { AreGreens monoid.now.graphs.right.letters (SameNode monoid.now.graphs.right)
         monoid.now.graphs.words green.now }
-    ensures { IfOk result
+    ensures answer { IfOk result
         (IsRTrivialAnswer monoid.now.graphs.right.letters (recognised monoid.now)) }
+    ensures apart { IfOk result (λ found. IfSome found
+        (λ w. (n : ℕ) → IsToldApart (recognised monoid.now) n w)) }
 {
-    witness_on(alloc, monoid, green, Side::Right)
+    let found = witness_on(alloc, monoid, green, Side::Right)?;
+    Ok(found)
 }
 
 /// The words of the least element with another one in its class on a side, or none where there is no such element.
