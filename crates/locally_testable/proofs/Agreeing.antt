@@ -1,8 +1,8 @@
 -- Languages with the same words have the same answer.
-use Rattle.std.proofs.Common.{◌≡◌, ◌↔◌, ◌⊎◌, inl, inr, ℕ, ◌<◌, ◌≤◌, Bool, IsTrue, List, ◌++◌, length, sym, subst, arith}
+use Rattle.std.proofs.Common.{◌≡◌, ◌↔◌, inl, inr, ℕ, ◌<◌, Bool, IsTrue, List, ◌++◌, length, sym, subst, arith}
 use Rattle.std.specs.Prelude.{slice_index}
 use Rattle.language_theory.specs.Words.{Over, word_at}
-use Rattle.language_theory.specs.Languages.{ExactlyOne, HaveSameWords, IsLeastWord}
+use Rattle.language_theory.specs.Languages.{ExactlyOne, HaveSameWords}
 use Rattle.language_theory.specs.Congruence.{Syntactic, Agree}
 use Rattle.language_theory.specs.Representatives.{AreRepresentatives}
 use Rattle.language_theory.proofs.Congruences.{both_directions, other_direction, syntactic_agrees, agree_turned}

@@ -1,12 +1,11 @@
 -- The elements of the syntactic monoid as places of words.
-use Rattle.std.proofs.Common.{◌≡◌, ◌↔◌, ℕ, ◌<◌, List, [], ◌∷◌, ◌++◌, length, refl, ap, sym, subst, ◌∙◌, arith}
+use Rattle.std.proofs.Common.{◌≡◌, ◌↔◌, ℕ, ◌<◌, List, [], ◌∷◌, ◌++◌, length, refl, sym, subst, ◌∙◌, arith}
 use Rattle.language_theory.specs.Words.{Over, word_at}
-use Rattle.language_theory.specs.Congruence.{Syntactic, IsCongruence, Agree}
+use Rattle.language_theory.specs.Congruence.{Syntactic, IsCongruence}
 use Rattle.language_theory.specs.Representatives.{AreRepresentatives}
-use Rattle.language_theory.specs.ShortlexGraph.{node, SameNode, IsGraphOf, LeadsNonempty}
+use Rattle.language_theory.specs.ShortlexGraph.{node, SameNode, IsGraphOf}
 use Rattle.language_theory.proofs.Congruences.{syntactic_congruence}
 use Rattle.language_theory.proofs.Shortlex.{over_append}
-use Rattle.monoid_theory.specs.Green.{IsIdempotent}
 use Rattle.monoid_theory.specs.Products.{IsProduct}
 use Rattle.monoid_theory.proofs.Agreeing.{agreeing_place}
 use Rattle.cayley_tables.specs.CayleyGraphs.{CayleyGraphs}

@@ -1,19 +1,18 @@
 -- The first flaw of a table of products as the least witness on words.
-use Rattle.std.proofs.Common.{◌≡◌, ◌↔◌, ◌⊎◌, inl, inr, ℕ, ◌<◌, Bool, IsTrue, List, [], ◌++◌, length, ap, sym, subst, ◌∙◌, arith}
+use Rattle.std.proofs.Common.{◌≡◌, ◌↔◌, inl, inr, ℕ, ◌<◌, Bool, IsTrue, List, [], ◌++◌, length, ap, sym, subst, ◌∙◌, arith}
 use Rattle.language_theory.specs.Words.{Over, word_at}
-use Rattle.language_theory.specs.Congruence.{Syntactic}
 use Rattle.monoid_theory.specs.Green.{IsIdempotent}
 use Rattle.monoid_theory.specs.Separation.{IsSeparation}
 use Rattle.cayley_tables.specs.CayleyGraphs.{CayleyGraphs}
 use Rattle.parallel_table.specs.ProductTables.{ProductTable, IsTableOf}
-use Rattle.syntactic_monoid.specs.SyntacticMonoid.{SyntacticMonoid, IsSyntactic, IsNonemptyWordOf, IsInSemigroup, recognised}
+use Rattle.syntactic_monoid.specs.SyntacticMonoid.{SyntacticMonoid, IsSyntactic, IsNonemptyWordOf, recognised}
 use Rattle.language_theory.proofs.Shortlex.{over_append}
 use Rattle.locally_testable.specs.declared.witness.LtKind.TheVariants as kind
 use Rattle.locally_testable.specs.declared.submonoids.Flaw.{Flaw}
 use Rattle.locally_testable.specs.declared.submonoids.Flaw.TheVariants as flaw
 use Rattle.locally_testable.specs.LocalSubmonoids.{local, Commute, FailsByRepeat, Fails, IsIdempotentWord, IsIdempotentPlace, IsLocallyIdempotentAndCommutative}
 use Rattle.locally_testable.specs.Witness.{IsFirstFailing, IsFirstRepeat, IsFirstSwap, IsOfFirstFailing, IsRepeatWitness, IsSwapWitness}
-use Rattle.locally_testable.specs.LocalTables.{local_element, HasNoFlaw, IsFlawAt, IsIdempotentAt, IsFirstFlaw, IsFlawOf}
+use Rattle.locally_testable.specs.LocalTables.{HasNoFlaw, IsFlawAt, IsIdempotentAt, IsFirstFlaw, IsFlawOf}
 use Rattle.locally_testable.proofs.LocalWords.{local_over, idempotent_moves}
 use Rattle.locally_testable.proofs.LocalTables.{first_repeat_on_words, first_swap_on_words, no_repeat_on_words, no_swap_on_words}
 use Rattle.locally_testable.proofs.Elements.{congruent, is_congruence, representatives, element_over, product_table, idempotent_place, nonempty_word_is}

@@ -1,6 +1,6 @@
 -- What the table of a monoid shows, of each language whose syntactic monoid it is.
-use Rattle.std.proofs.Common.{◌≡◌, ◌↔◌, ℕ, ◌<◌, List, Option, Some, None, length, subst, ap}
-use Rattle.std.specs.Prelude.{IfNone, IfSome, option_map}
+use Rattle.std.proofs.Common.{◌≡◌, ℕ, ◌<◌, List, Option, Some, None, subst}
+use Rattle.std.specs.Prelude.{IfNone}
 use Rattle.language_theory.specs.Languages.{HaveSameWords}
 use Rattle.language_theory.specs.Congruence.{Syntactic, Agree}
 use Rattle.language_theory.specs.Representatives.{AreRepresentatives}

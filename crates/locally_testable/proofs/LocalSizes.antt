@@ -1,18 +1,18 @@
 -- The sizes of the local submonoids, and the local work, from the least elements that give their
 -- elements.
-use Rattle.std.proofs.Common.{◌≡◌, ◌↔◌, ◌⊎◌, inl, inr, ℕ, zero, suc, ◌+◌, ◌*◌, ◌<◌, ◌≤◌, List, [], ◌∷◌, ◌++◌, length, map, refl, ap, sym, subst, ◌∙◌, arith}
+use Rattle.std.proofs.Common.{◌≡◌, ◌↔◌, ◌⊎◌, inl, inr, ℕ, ◌+◌, ◌*◌, ◌<◌, ◌≤◌, List, [], ◌∷◌, ◌++◌, length, map, refl, ap, sym, subst, ◌∙◌, arith}
 use Rattle.std.specs.Prelude.{slice_index}
 use Rattle.std.proofs.lemmas.Bool.{cases_lt}
 use Rattle.std.proofs.Math.Nat.{mul-le-mul_right}
 use Rattle.std.proofs.lemmas.List.{length_push, get_or_append_left, get_or_push, get_or-map, length-map}
 use Rattle.language_theory.specs.Words.{Over, word_at, ◌⊏◌}
 use Rattle.language_theory.specs.Congruence.{IsEquivalence}
-use Rattle.language_theory.specs.Representatives.{AreRepresentatives, IsPlaceOf}
+use Rattle.language_theory.specs.Representatives.{IsPlaceOf}
 use Rattle.language_theory.proofs.Shortlex.{shortlex_trans}
 use Rattle.parallel_table.specs.ProductTables.{ProductTable, IsTableOf}
 use Rattle.syntactic_monoid.specs.SyntacticMonoid.{SyntacticMonoid, IsSyntactic}
-use Rattle.locally_testable.specs.LocalSubmonoids.{GiveOne, IsIdempotentPlace, IsLocalSize, IsSizeAt, IsLocalWork, sum_of_squares}
-use Rattle.locally_testable.specs.LocalTables.{local_element, AreFirstBelow, IsIdempotentAt, IsSizeHere, IsWorkBelow}
+use Rattle.locally_testable.specs.LocalSubmonoids.{GiveOne, IsLocalSize, IsSizeAt, IsLocalWork, sum_of_squares}
+use Rattle.locally_testable.specs.LocalTables.{local_element, AreFirstBelow, IsSizeHere, IsWorkBelow}
 use Rattle.locally_testable.proofs.LocalTables.{give_one}
 use Rattle.locally_testable.proofs.LocalWords.{give_one_equivalence, local_moves}
 use Rattle.locally_testable.proofs.Elements.{congruent, is_congruence, representatives, element_over, product_table, idempotent_place}

@@ -1,5 +1,5 @@
 -- Elements of local submonoids as words: related words give related elements.
-use Rattle.std.proofs.Common.{◌≡◌, ℕ, List, ◌++◌}
+use Rattle.std.proofs.Common.{ℕ, List, ◌++◌}
 use Rattle.language_theory.specs.Words.{Over}
 use Rattle.language_theory.specs.Congruence.{IsCongruence, IsEquivalence}
 use Rattle.monoid_theory.specs.Green.{IsIdempotent}

@@ -1,14 +1,13 @@
 -- A language has one answer within given limits.
-use Rattle.std.proofs.Common.{◌≡◌, ◌↔◌, ◌⊎◌, inl, inr, ℕ, ◌+◌, ◌*◌, ◌<◌, ◌≤◌, Bool, true, false, IsTrue, List, [], ◌∷◌, ◌++◌, length, refl, ap, sym, subst, ◌∙◌, arith}
+use Rattle.std.proofs.Common.{◌≡◌, ◌↔◌, inl, inr, ℕ, ◌<◌, Bool, true, false, IsTrue, List, ◌++◌, length, refl, ap, sym, subst, ◌∙◌, arith}
 use Rattle.std.specs.Prelude.{slice_index}
 use Rattle.std.specs.Cmp.{both_ways}
 use Rattle.std.proofs.lemmas.Bool.{cases_lt}
 use Rattle.std.proofs.lemmas.List.{ext_get_or}
-use Rattle.language_theory.specs.Words.{Over, word_at}
-use Rattle.language_theory.specs.Languages.{IsLeastWord}
+use Rattle.language_theory.specs.Words.{word_at}
 use Rattle.language_theory.specs.Congruence.{Syntactic}
 use Rattle.language_theory.specs.Representatives.{AreRepresentatives}
-use Rattle.language_theory.proofs.Congruences.{both_directions, other_direction, syntactic_congruence}
+use Rattle.language_theory.proofs.Congruences.{syntactic_congruence}
 use Rattle.language_theory.proofs.LeastWords.{least_words_equal}
 use Rattle.language_theory.proofs.Representatives.{one_list}
 use Rattle.monoid_theory.specs.Separation.{IsSeparation}
@@ -17,14 +16,13 @@ use Rattle.level_search.specs.declared.level.Level.{Level}
 use Rattle.level_search.specs.declared.level.Level.TheVariants as level
 use Rattle.level_search.specs.Levels.{IsAnswer}
 use Rattle.level_search.proofs.Answering.{one_answer}
-use Rattle.locally_testable.specs.declared.work.TheConstants.{MOST_WORK}
 use Rattle.locally_testable.specs.declared.answer.LtAnswer.{LtAnswer}
 use Rattle.locally_testable.specs.declared.answer.LtAnswer.TheVariants as answer
 use Rattle.locally_testable.specs.declared.witness.LtKind.{LtKind}
 use Rattle.locally_testable.specs.declared.witness.LtKind.TheVariants as kind
 use Rattle.locally_testable.specs.declared.witness.LtWitness.{LtWitness}
 use Rattle.locally_testable.specs.Keys.{width, SameKey}
-use Rattle.locally_testable.specs.LocalSubmonoids.{local, Commute, FailsByRepeat, GiveOne, IsIdempotentPlace, IsLocalSize, IsSizeAt, IsLocalWork, IsLocallyIdempotentAndCommutative, sum_of_squares}
+use Rattle.locally_testable.specs.LocalSubmonoids.{local, FailsByRepeat, GiveOne, IsLocalSize, IsSizeAt, IsLocalWork, sum_of_squares}
 use Rattle.locally_testable.specs.Witness.{IsFirstFailing, IsFirstRepeat, IsFirstSwap, IsOfFirstFailing, IsRepeatWitness, IsSwapWitness, IsWitnessOf, IsWitness, IsLeastNonempty}
 use Rattle.locally_testable.specs.Answer.{HasMuchWork, HasLittleWork, IsFound, IsSearched, IsLocalAnswer}
 use Rattle.locally_testable.proofs.LocalWords.{give_one_equivalence}

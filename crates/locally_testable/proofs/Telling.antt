@@ -1,5 +1,5 @@
 -- What the answer tells of the language.
-use Rattle.std.proofs.Common.{◌≡◌, ◌↔◌, ℕ, ◌<◌, ◌≤◌, Bool, true, List, sym}
+use Rattle.std.proofs.Common.{◌≡◌, ℕ, Bool, true, List}
 use Rattle.language_theory.specs.Congruence.{Syntactic}
 use Rattle.language_theory.specs.Representatives.{AreRepresentatives}
 use Rattle.level_search.proofs.Answering.{none_suffices}

@@ -1,5 +1,5 @@
 -- The local submonoids of a finite monoid whose elements are numbers, by its table of products.
-use Rattle.std.specs.Prelude.{◌≡◌, ◌<◌, ◌≤◌, ◌+◌, ◌⊎◌, ℕ, List, length, slice_index}
+use Rattle.std.specs.Prelude.{◌≡◌, ◌<◌, ◌≤◌, ◌⊎◌, ℕ, List, length, slice_index}
 use Rattle.parallel_table.specs.ProductTables.{ProductTable, IsTableOf, cell}
 use Rattle.syntactic_monoid.specs.SyntacticMonoid.{SyntacticMonoid, IsInSemigroup}
 use Rattle.locally_testable.specs.LocalSubmonoids.{sum_of_squares}

@@ -1,12 +1,11 @@
-use Rattle.std.proofs.Common.{◌≡◌, ◌≤◌, ℕ, true, arith, rules}
+use Rattle.std.proofs.Common.{◌≡◌, true, arith, rules}
 use Rattle.std.specs.Prelude.{is_some}
 use Rattle.language_theory.specs.Nerode.{accepted}
 use Rattle.parallel_table.specs.ProductTables.{IsTableOf}
 use Rattle.locally_testable.specs.Answer.{HasLittleWork}
-use Rattle.locally_testable.specs.Witness.{IsWitness}
 use Rattle.locally_testable.proofs.Languages.{when_none, witness_of_language, work_of_language, locally_of_language}
 use Rattle.locally_testable.proofs.LeastWitnesses.{witness_shows}
-use Rattle.locally_testable.proofs.Telling.{searched_answer, answer_tells}
+use Rattle.locally_testable.proofs.Telling.{searched_answer}
 use Rattle.locally_testable.proofs.answer.local.Goals as goal
 
 pub returns-then-branch-gt-MOST_WORK-clause-answer :

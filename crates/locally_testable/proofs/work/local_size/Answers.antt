@@ -1,4 +1,4 @@
-use Rattle.std.proofs.Common.{◌≡◌, ◌≤◌, length, arith}
+use Rattle.std.proofs.Common.{◌≤◌, arith}
 use Rattle.locally_testable.proofs.FirstElements.{firsts_few}
 use Rattle.locally_testable.proofs.work.local_size.Goals as goal
 

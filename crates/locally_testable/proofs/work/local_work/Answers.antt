@@ -1,5 +1,5 @@
-use Rattle.std.proofs.Common.{◌≡◌, ◌<◌, ◌≤◌, ◌*◌, ◌+◌, ℕ, arith, rules, sym, subst}
-use Rattle.locally_testable.specs.LocalTables.{IsSizeHere, IsWorkBelow}
+use Rattle.std.proofs.Common.{◌≡◌, ◌<◌, ◌≤◌, ◌*◌, ℕ, arith, sym, subst}
+use Rattle.locally_testable.specs.LocalTables.{IsSizeHere}
 use Rattle.locally_testable.proofs.LocalSizes.{more_work, square_few}
 use Rattle.locally_testable.proofs.work.local_work.Goals as goal
 
