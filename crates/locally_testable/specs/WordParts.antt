@@ -1,7 +1,7 @@
 -- Prefixes, suffixes and factors of words that are put together. They stand here since the law of a
 -- trait may cite no file of proofs.
 use Rattle.std.proofs.Common.{◌≡◌, ◌↔◌, ◌⊎◌, inl, inr, ℕ, zero, suc, ◌+◌, ◌-◌, ◌<◌, ◌≤◌, List, [], ◌∷◌, ◌++◌, length, take, drop, refl, ap, sym, subst, ◌∙◌, arith, append_assoc, length-append}
-use Rattle.std.proofs.lemmas.List.{take-append-le, take_all, length-drop, take-append-drop, append-nil}
+use Rattle.std.proofs.lemmas.List.{take-append-le, take_all, length-drop, take-append-drop}
 use Rattle.language_theory.specs.Words.{IsFactor, power}
 use Rattle.locally_testable.specs.Keys.{prefix, suffix}
 
@@ -25,9 +25,6 @@ begins_front (a ∷ u) (c ∷ w) q (r, e) l =
 
 pub factor_there : (u w : List ℕ) → Begins u w → IsFactor u w
 factor_there u w (q, e) = ([], q, e)
-
-pub factor_of_itself : (w : List ℕ) → IsFactor w w
-factor_of_itself w = ([], [], append-nil w)
 
 pub factor_before : (x u w : List ℕ) → IsFactor x w → IsFactor x (u ++ w)
 factor_before x u w (p, q, e) =
@@ -109,9 +106,6 @@ suffix_back n p w l =
 
 pub suffix_length : (n : ℕ) (w : List ℕ) → n ≤ length w → length (suffix n w) ≡ n
 suffix_length n w l = length-drop (length w - n) w ∙ omega arith
-
-pub suffix_short : (n : ℕ) (w : List ℕ) → length (suffix n w) ≤ n
-suffix_short n w = let e = length-drop (length w - n) w in omega arith
 
 pub suffix_ends : (n : ℕ) (w : List ℕ) → take (length w - n) w ++ suffix n w ≡ w
 suffix_ends n w = take-append-drop (length w - n) w

@@ -1,8 +1,8 @@
 //! Whether a language is locally testable.
-ghost use Rattle.std.specs.Prelude.{◌≡◌, ◌≤◌, is_some, option_map, IfSome, IfOk};
+ghost use Rattle.std.specs.Prelude.{◌≤◌, is_some, option_map, IfSome, IfOk};
 ghost use Rattle.language_theory.specs.Nerode.{accepted};
 ghost use Rattle.parallel_table.specs.ProductTables.{IsTableOf};
-ghost use Rattle.syntactic_monoid.specs.SyntacticMonoid.{IsSyntacticMonoid, recognised};
+ghost use Rattle.syntactic_monoid.specs.SyntacticMonoid.{IsSyntacticMonoid};
 ghost use Rattle.locally_testable.specs.Answer.{IsLocalAnswer, IsFound, Tells};
 
 use crate::factors::Factors;

@@ -1,7 +1,6 @@
 //! Laws of the keys of prefixes, suffixes and factors, of the words that show that a language is not locally testable,
 //! and of the answer.
 ghost use Rattle.std.specs.Prelude.{◌≡◌, ◌<◌, ◌≤◌, ◌↔◌, ◌++◌, ℕ, Bool, List, length};
-ghost use Rattle.language_theory.specs.Words.{Over};
 ghost use Rattle.language_theory.specs.Languages.{HaveSameWords};
 ghost use Rattle.language_theory.specs.Congruence.{Syntactic, IsRightCongruence};
 ghost use Rattle.language_theory.specs.Representatives.{AreRepresentatives};

@@ -1,7 +1,7 @@
 //! The local submonoids of a finite monoid, by its table of products: their sizes, and what fails in them.
-ghost use Rattle.std.specs.Prelude.{◌≡◌, ◌<◌, ◌≤◌, ◌↔◌, ℕ, length, slice_index, map, All, IsTrue, IfSome, IfNone, IfOk};
-ghost use Rattle.parallel_table.specs.ProductTables.{cell, IsTableOf};
-ghost use Rattle.locally_testable.specs.LocalTables.{IsClosed, IsIdempotentElement, local_element, IsLeastRepeatAt, AreFirstBelow, HasNoRepeat, HasNoFlaw, AreOneProduct, IsFirstPair, AllCommute, IsFlawAt, IsIdempotentAt, IsFirstFlaw};
+ghost use Rattle.std.specs.Prelude.{◌≡◌, ◌<◌, ◌↔◌, ℕ, length, slice_index, map, All, IsTrue, IfSome, IfNone, IfOk};
+ghost use Rattle.parallel_table.specs.ProductTables.{IsTableOf};
+ghost use Rattle.locally_testable.specs.LocalTables.{IsClosed, local_element, IsLeastRepeatAt, AreFirstBelow, HasNoRepeat, HasNoFlaw, AreOneProduct, IsFirstPair, AllCommute, IsFlawAt, IsIdempotentAt, IsFirstFlaw};
 
 use parallel_table::Table;
 use std::alloc::Global;

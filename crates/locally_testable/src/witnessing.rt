@@ -1,5 +1,5 @@
 //! The witness of the first flaw.
-ghost use Rattle.std.specs.Prelude.{◌≡◌, ◌<◌, ◌↔◌, ◌++◌, IsTrue, IfOk, OnOk};
+ghost use Rattle.std.specs.Prelude.{◌≡◌, ◌<◌, ◌↔◌, ◌++◌, IsTrue, IfOk};
 ghost use Rattle.language_theory.specs.Words.{Over};
 ghost use Rattle.language_theory.specs.Congruence.{Syntactic as SyntacticCongruence};
 ghost use Rattle.monoid_theory.specs.Separation.{IsSeparation};

@@ -1,5 +1,5 @@
 //! The local work: the sum of the squares of the sizes of the local submonoids.
-ghost use Rattle.std.specs.Prelude.{◌≡◌, ◌<◌, ◌≤◌, IfOk};
+ghost use Rattle.std.specs.Prelude.{◌<◌, ◌≤◌, IfOk};
 ghost use Rattle.parallel_table.specs.ProductTables.{IsTableOf};
 ghost use Rattle.locally_testable.specs.LocalTables.{IsSizeHere, IsWorkBelow};
 
