@@ -1,7 +1,6 @@
 -- The local submonoids of a finite monoid, stated on words: equality in the monoid is the
--- congruence
--- `same` (Eilenberg: local submonoids; Brzozowski and Simon 1973, McNaughton 1974). The local work
--- is this project's own.
+-- congruence `same` (Eilenberg: local submonoids; Brzozowski and Simon 1973, McNaughton 1974). The
+-- local work is this project's own.
 use Rattle.std.specs.Prelude.{◌≡◌, ◌<◌, ◌++◌, ◌*◌, ◌+◌, ◌⊎◌, ℕ, List, [], ◌∷◌, length, slice_index}
 use Rattle.language_theory.specs.Words.{Over, word_at}
 use Rattle.language_theory.specs.Representatives.{AreRepresentatives}

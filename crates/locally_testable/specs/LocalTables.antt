@@ -57,8 +57,7 @@ AllCommute t elements = (i j : ℕ) → i < length elements → j < length eleme
     → AreOneProduct t (slice_index elements i) (slice_index elements j)
 
 -- i is the first place of an element that does not commute with all that are listed, and j the
--- first
--- place of one with which it does not
+-- first place of one with which it does not
 pub record IsFirstPair (t : ProductTable) (elements : List ℕ) (i j : ℕ) : Type 0 where
   pub within : i < length elements
   pub other_within : j < length elements
