@@ -36,13 +36,13 @@ pub enum LtAnswer {
     NoneTo(u32),
 }
 
-/// Whether the language of a syntactic monoid and of a minimal automaton is locally testable. `TableLimit` comes
-/// exactly
-/// where no table is given; else `WorkLimit` exactly where the local work, the sum of the squares of the sizes of the
-/// local submonoids `e M e` over all idempotent classes e of nonempty words, is greater than `MOST_WORK`; else `No`
-/// exactly where some such `e M e` is not idempotent and commutative, with the least witness; else the answer is that
-/// of
-/// the search through the levels of `Factors` from 1 to `max_level`, each with at most `max_pairs` pairs.
+/// Whether the language of a syntactic monoid and of a minimal automaton is locally testable.
+///
+/// `TableLimit` comes exactly where no table is given; else `WorkLimit` exactly where the local work is greater than
+/// `MOST_WORK`: the sum of the squares of the sizes of the local submonoids `e M e`, over all idempotent classes e of
+/// nonempty words. Else `No` comes exactly where some such `e M e` is not idempotent and commutative, with the least
+/// witness. Else the answer is that of the search through the levels of `Factors` from 1 to `max_level`, each with at
+/// most `max_pairs` pairs.
 ///
 /// Conditions: the monoid is that of the automaton's language, a given table is filled for it,
 /// `1 <= max_level <= MOST_LEVEL` and `max_pairs <= MOST_PAIRS`.
