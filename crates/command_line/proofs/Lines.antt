@@ -18,13 +18,21 @@ use Rattle.command_line.specs.Line.{IsTaken, IsLine, IsNumberIn, AreNumbersIn, I
 named : List ℕ → Command
 named word = cond (bytes_eq word (codes "monoid")) command.Monoid
     (cond (bytes_eq word (codes "green")) command.Green
-    (cond (bytes_eq word (codes "table")) command.Table command.Automaton))
+    (cond (bytes_eq word (codes "piecewise")) command.Piecewise
+    (cond (bytes_eq word (codes "local")) command.Local
+    (cond (bytes_eq word (codes "rtrivial")) command.RTrivial
+    (cond (bytes_eq word (codes "commutative")) command.Commutative
+    (cond (bytes_eq word (codes "table")) command.Table command.Automaton))))))
 
 named-word : (c : Command) → named (command_word c) ≡ c
 unfolding named
 named-word command.Automaton = refl
 named-word command.Monoid = refl
 named-word command.Green = refl
+named-word command.Piecewise = refl
+named-word command.Local = refl
+named-word command.RTrivial = refl
+named-word command.Commutative = refl
 named-word command.Table = refl
 
 -- the word of a command is no other's
@@ -95,6 +103,7 @@ line_in_range words r line = record {
   elements = (line.numbers 1 (omega arith)).most;
   table = (line.numbers 2 (omega arith)).most;
   nodes = (line.numbers 3 (omega arith)).most;
+  some_level = (line.numbers 4 (omega arith)).least;
   level = (line.numbers 4 (omega arith)).most;
   pairs = (line.numbers 5 (omega arith)).most;
   least_workers = (line.numbers 6 (omega arith)).least;

@@ -83,6 +83,7 @@ pub record IsInRange (r : Request) : Type 0 where
   pub elements : r.elements ≤ 50000
   pub table : r.table ≤ 8000
   pub nodes : r.nodes ≤ 1000000
+  pub some_level : 1 ≤ r.level
   pub level : r.level ≤ 12
   pub pairs : r.pairs ≤ 100000
   pub least_workers : 1 ≤ r.workers

@@ -35,4 +35,8 @@ abbrev pub command_word : Command → List ℕ
 command_word command.Automaton = codes "automaton"
 command_word command.Monoid = codes "monoid"
 command_word command.Green = codes "green"
+command_word command.Piecewise = codes "piecewise"
+command_word command.Local = codes "local"
+command_word command.RTrivial = codes "rtrivial"
+command_word command.Commutative = codes "commutative"
 command_word command.Table = codes "table"

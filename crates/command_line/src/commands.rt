@@ -11,6 +11,14 @@ pub enum Command {
     Monoid,
     /// Green's classes of the syntactic monoid, as an egg-box diagram.
     Green,
+    /// Whether short subwords tell the language, and from which length on.
+    Piecewise,
+    /// Whether short factors tell the language, and from which length on.
+    Local,
+    /// Whether the syntactic monoid is R-trivial.
+    RTrivial,
+    /// Whether the syntactic monoid is commutative.
+    Commutative,
     /// The products of all elements.
     Table,
 }
@@ -20,11 +28,15 @@ pub(crate) fn command_of(word: &str) -> Option<Command>
     ensures some { IfSome result (λ command. word.now ≡ command_word command) }
     ensures none { IsNone result → (command : Command) → ¬ (word.now ≡ command_word command) }
 {
-    match word.as_bytes() {
-        b"automaton" => Some(Command::Automaton),
-        b"monoid" => Some(Command::Monoid),
-        b"green" => Some(Command::Green),
-        b"table" => Some(Command::Table),
+    match word {
+        "automaton" => Some(Command::Automaton),
+        "monoid" => Some(Command::Monoid),
+        "green" => Some(Command::Green),
+        "piecewise" => Some(Command::Piecewise),
+        "local" => Some(Command::Local),
+        "rtrivial" => Some(Command::RTrivial),
+        "commutative" => Some(Command::Commutative),
+        "table" => Some(Command::Table),
         _ => None,
     }
 }

@@ -4,3 +4,6 @@ pub mod AutomatonSection
 pub mod MonoidSection
 pub mod TableSection
 pub mod GreenSection
+pub mod PiecewiseSection
+pub mod LocalSection
+pub mod CommutativeSection

@@ -38,3 +38,15 @@ word_text signs (a ∷ w) = letters_text signs (a ∷ w)
 -- whether words are in the language, or out of it
 abbrev pub membership_text : Bool → List ℕ
 membership_text is_in = cond is_in (codes "in") (codes "out")
+
+-- a line with a name and a number
+abbrev pub number_line : List ℕ → ℕ → List ℕ
+number_line name n = name ++ codes " " ++ decimal n ++ codes "\n"
+
+-- a line with a name and a word
+abbrev pub word_line : List ℕ → List ℕ → List ℕ → List ℕ
+word_line signs name w = name ++ codes " " ++ word_text signs w ++ codes "\n"
+
+-- the line that tells whether the first of two words is in the language
+abbrev pub first_line : Bool → List ℕ
+first_line is_in = codes "first " ++ membership_text is_in ++ codes "\n"

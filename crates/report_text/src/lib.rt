@@ -3,8 +3,11 @@
 
 mod automaton_section;
 mod buffer;
+mod commutative_section;
 mod green_section;
+mod local_section;
 mod monoid_section;
+mod piecewise_section;
 mod rendering;
 mod table_section;
 #[cfg(test)]
@@ -12,6 +15,9 @@ mod tests;
 
 pub use automaton_section::say_automaton;
 pub use buffer::{Buffer, SayFault, flush, say};
+pub use commutative_section::say_commutative;
 pub use green_section::say_green;
+pub use local_section::say_local;
 pub use monoid_section::say_monoid;
+pub use piecewise_section::{say_piecewise, say_r_trivial};
 pub use table_section::say_table;

@@ -1,7 +1,7 @@
 //! The parts of a line, each put behind a text.
 ghost use Rattle.std.specs.Prelude.{◌≡◌, ◌<◌, ◌++◌, length, decimal, OnOk};
 ghost use Rattle.language_theory.specs.Words.{Over};
-ghost use Rattle.report_text.specs.Texts.{letter_text, letters_text, word_text, membership_text, gap_before};
+ghost use Rattle.report_text.specs.Texts.{letter_text, letters_text, word_text, membership_text, gap_before, number_line, word_line, first_line};
 
 use syn_words::{Alphabet, Memory, Word};
 
@@ -75,4 +75,40 @@ pub(crate) fn push_gap(text: &mut Vec<u8>, gap: &[u8], place: usize) -> Result<(
         return Ok(());
     }
     push_bytes(text, gap)
+}
+
+/// Puts a line with a name and a number behind a text.
+pub(crate) fn push_number_line(text: &mut Vec<u8>, name: &[u8], number: u32) -> Result<(), Memory>
+    ensures { OnOk result (text.new.items ≡ text.old.items ++ number_line name.now number) }
+{
+    push_bytes(text, name)?;
+    push_bytes(text, b" ")?;
+    push_number(text, number)?;
+    push_bytes(text, b"\n")
+}
+
+/// Puts a line with a name and a word behind a text.
+pub(crate) fn push_word_line(
+    text: &mut Vec<u8>,
+    alphabet: &Alphabet,
+    name: &[u8],
+    word: &Word,
+) -> Result<(), Memory>
+    requires { Over (length alphabet.now) word.now }
+    ensures { OnOk result
+        (text.new.items ≡ text.old.items ++ word_line alphabet.now name.now word.now) }
+{
+    push_bytes(text, name)?;
+    push_bytes(text, b" ")?;
+    push_word(text, alphabet, word)?;
+    push_bytes(text, b"\n")
+}
+
+/// Puts behind a text the line that tells whether the first of two words is in the language.
+pub(crate) fn push_first_line(text: &mut Vec<u8>, is_in: bool) -> Result<(), Memory>
+    ensures { OnOk result (text.new.items ≡ text.old.items ++ first_line is_in) }
+{
+    push_bytes(text, b"first ")?;
+    push_membership(text, is_in)?;
+    push_bytes(text, b"\n")
 }

@@ -15,6 +15,10 @@ use Rattle.syntactic_monoid.proofs.OneMonoid.{monoids_are_one}
 use Rattle.report_text.specs.AutomatonSection.{automaton_text}
 use Rattle.report_text.specs.MonoidSection.{monoid_text}
 use Rattle.report_text.specs.GreenSection.{marked, green_text}
+use Rattle.report_text.specs.PiecewiseSection.{piecewise_text, is_piecewise_limit, r_trivial_text}
+use Rattle.report_text.specs.LocalSection.{local_text, is_local_limit}
+use Rattle.report_text.specs.CommutativeSection.{commutative_text}
+use Rattle.piecewise_testable.proofs.OneAnswer.{one_piecewise_answer, one_r_trivial_answer, one_commutative_answer}
 use Rattle.synmon_top.specs.declared.sections.Section.{Section}
 use Rattle.synmon_top.specs.declared.sections.Section.TheVariants as section
 use Rattle.synmon_top.specs.Sections.{Limits, limits_of, Said, joined, sections_of, IsSection, AreSections, AreSaid, IsAutomatonSection, IsTableWithin, AreBoxesFor}
@@ -25,6 +29,7 @@ use Rattle.synmon_top.specs.declared.ending.Ending.TheVariants as ending
 use Rattle.synmon_top.specs.declared.ending.Stop.{Stop}
 use Rattle.synmon_top.specs.declared.ending.Stop.TheVariants as stop
 use Rattle.synmon_top.proofs.Elements.{rules_are_one_too}
+use Rattle.synmon_top.proofs.Locals.{one_answer_of_tables}
 use Rattle.synmon_top.proofs.Tables.{one_section_text, one_limit}
 use Rattle.synmon_top.proofs.Diagrams.{one_list_of_marks, one_list_of_boxes}
 use Rattle.synmon_top.proofs.Outcomes.{outcome-along}
@@ -65,6 +70,31 @@ one_section section.Green limits signs L p q h k =
     green_text signs (marked m.graphs.words h.idempotents) h.boxes) monoid
     ∙ ap (λ b. green_text signs (marked k.monoid.graphs.words b) h.boxes) marks
     ∙ ap (green_text signs (marked k.monoid.graphs.words k.idempotents)) boxes ∙ sym k.text)
+    (h.unlimited ∙ sym k.unlimited)
+one_section section.Piecewise limits signs L p q h k =
+    let answer = one_piecewise_answer (length signs) L limits.pairs limits.level h.answer k.answer
+    h.answered k.answered in
+    same_said p q
+    (h.text ∙ ap (piecewise_text signs) answer ∙ sym k.text)
+    (h.limited ∙ ap is_piecewise_limit answer ∙ sym k.limited)
+one_section section.Local limits signs L p q h k =
+    let monoid = monoids_are_one (length signs) L h.monoid k.monoid h.syntactic k.syntactic in
+    let answer = one_answer_of_tables (length signs) L h.monoid k.monoid monoid h.syntactic
+    h.has_table k.has_table limits.table h.table k.table limits.level limits.pairs h.answer
+    k.answer h.answered k.answered in
+    same_said p q
+    (h.text ∙ ap (local_text signs limits.table) answer ∙ sym k.text)
+    (h.limited ∙ ap is_local_limit answer ∙ sym k.limited)
+one_section section.RTrivial limits signs L p q h k =
+    let answer = one_r_trivial_answer (length signs) L h.answer k.answer h.answered k.answered in
+    same_said p q
+    (h.text ∙ ap (r_trivial_text signs) answer ∙ sym k.text)
+    (h.unlimited ∙ sym k.unlimited)
+one_section section.Commutative limits signs L p q h k =
+    let answer = one_commutative_answer (length signs) L h.answer k.answer h.answered
+    k.answered in
+    same_said p q
+    (h.text ∙ ap (commutative_text signs) answer ∙ sym k.text)
     (h.unlimited ∙ sym k.unlimited)
 one_section section.Table limits signs L p q h k =
     let monoid = monoids_are_one (length signs) L h.monoid k.monoid h.syntactic k.syntactic in

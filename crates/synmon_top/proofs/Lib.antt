@@ -7,3 +7,5 @@ pub mod Tables
 pub mod Diagrams
 pub mod Deciding
 pub mod Statuses
+pub mod Recognised
+pub mod Locals

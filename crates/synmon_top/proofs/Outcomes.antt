@@ -46,6 +46,14 @@ needs_there command.Monoid v monoid green table =
     All-cons (HasNeeds v) section.Monoid [] (monoid tt) (All-nil (HasNeeds v))
 needs_there command.Green v monoid green table =
     All-cons (HasNeeds v) section.Green [] (green tt) (All-nil (HasNeeds v))
+needs_there command.Piecewise v monoid green table =
+    All-cons (HasNeeds v) section.Piecewise [] (green tt) (All-nil (HasNeeds v))
+needs_there command.Local v monoid green table =
+    All-cons (HasNeeds v) section.Local [] (table tt) (All-nil (HasNeeds v))
+needs_there command.RTrivial v monoid green table =
+    All-cons (HasNeeds v) section.RTrivial [] (green tt) (All-nil (HasNeeds v))
+needs_there command.Commutative v monoid green table =
+    All-cons (HasNeeds v) section.Commutative [] (monoid tt) (All-nil (HasNeeds v))
 needs_there command.Table v monoid green table =
     All-cons (HasNeeds v) section.Table [] (table tt) (All-nil (HasNeeds v))
 
@@ -54,12 +62,20 @@ pub green_needs_elements : (c : Command) → NeedsGreen c → NeedsElements c
 green_needs_elements command.Automaton needs = absurd needs
 green_needs_elements command.Monoid needs = absurd needs
 green_needs_elements command.Green needs = tt
+green_needs_elements command.Piecewise needs = tt
+green_needs_elements command.Local needs = absurd needs
+green_needs_elements command.RTrivial needs = tt
+green_needs_elements command.Commutative needs = absurd needs
 green_needs_elements command.Table needs = absurd needs
 
 pub table_needs_elements : (c : Command) → NeedsTable c → NeedsElements c
 table_needs_elements command.Automaton needs = absurd needs
 table_needs_elements command.Monoid needs = absurd needs
 table_needs_elements command.Green needs = absurd needs
+table_needs_elements command.Piecewise needs = absurd needs
+table_needs_elements command.Local needs = tt
+table_needs_elements command.RTrivial needs = absurd needs
+table_needs_elements command.Commutative needs = absurd needs
 table_needs_elements command.Table needs = tt
 
 -- what the sections say about a source that nothing stops

@@ -1,5 +1,5 @@
 -- The values that are computed for a request, and the text of an answer.
-use Rattle.std.specs.Prelude.{◌≡◌, ℕ, Bool, false, List, length, map, All, [], Option, Some, None, is_none, ⊤}
+use Rattle.std.specs.Prelude.{◌≡◌, ◌≤◌, ℕ, Bool, false, List, length, map, All, [], Option, Some, None, is_none, ⊤}
 use Rattle.language_theory.specs.Nerode.{MinimalAutomaton, IsMinimal}
 use Rattle.language_theory.specs.ShortlexGraph.{SameNode}
 use Rattle.monoid_theory.specs.Presentation.{AreRules}
@@ -11,7 +11,14 @@ use Rattle.report_text.specs.MonoidSection.{monoid_text}
 use Rattle.cayley_tables.specs.CayleyGraphs.{CayleyGraphs}
 use Rattle.green_relations.specs.GreenClasses.{GreenClasses, AreGreens}
 use Rattle.report_text.specs.GreenSection.{AreBoxesToSay, marked, green_text}
+use Rattle.report_text.specs.PiecewiseSection.{IsPiecewiseOver, IsRTrivialOver, piecewise_text, is_piecewise_limit, r_trivial_text}
+use Rattle.report_text.specs.LocalSection.{IsLocalOver, local_text, is_local_limit}
+use Rattle.report_text.specs.CommutativeSection.{IsCommutativeOver, commutative_text}
 use Rattle.report_text.specs.TableSection.{section_text}
+use Rattle.locally_testable.specs.declared.answer.LtAnswer.{LtAnswer}
+use Rattle.piecewise_testable.specs.declared.answer.PtAnswer.{PtAnswer}
+use Rattle.piecewise_testable.specs.declared.witness.PtWitness.{PtWitness}
+use Rattle.piecewise_testable.specs.declared.witness.CWitness.{CWitness}
 use Rattle.synmon_top.specs.Sections.{Limits, limits_of, Said, joined, IsTableWithin}
 use Rattle.synmon_top.specs.declared.sections.Section.{Section}
 use Rattle.synmon_top.specs.declared.sections.Section.TheVariants as section
@@ -41,8 +48,11 @@ values_of v = record {
   table = v.table.now;
 }
 
--- the values are those of the source's language
+-- the values are those of the source's language, and the limits are in their ranges
 pub record AreValues (v : Values) : Type 0 where
+  pub some_level : 1 ≤ v.limits.level
+  pub level : v.limits.level ≤ 12
+  pub pairs : v.limits.pairs ≤ 100000
   pub minimal : IsMinimal (length v.source.letters) (language_of v.source) v.automaton
   pub syntactic : (m : SyntacticMonoid) → v.monoid ≡ Some m
       → IsSyntacticMonoid (length v.source.letters) (language_of v.source) m
@@ -69,6 +79,10 @@ abbrev pub HasNeeds : Values → Section → Type 0
 HasNeeds v section.Automaton = ⊤
 HasNeeds v section.Monoid = (m : SyntacticMonoid) × (v.monoid ≡ Some m)
 HasNeeds v section.Green = HasGreen v
+HasNeeds v section.Piecewise = HasGreen v
+HasNeeds v section.Local = HasTable v
+HasNeeds v section.RTrivial = HasGreen v
+HasNeeds v section.Commutative = (m : SyntacticMonoid) × (v.monoid ≡ Some m)
 HasNeeds v section.Table = HasTable v
 
 -- what the section `monoid` says: nothing where the monoid is not there
@@ -92,12 +106,30 @@ abbrev pub green_said : Values → List (List (List (List ℕ))) → Said
 green_said v boxes =
     record { text = boxes_with v.source.letters boxes v.monoid v.green; limited = false }
 
+abbrev pub piecewise_said : Values → PtAnswer → Said
+piecewise_said v a =
+    record { text = piecewise_text v.source.letters a; limited = is_piecewise_limit a }
+
+abbrev pub local_said : Values → LtAnswer → Said
+local_said v a = record
+    { text = local_text v.source.letters v.limits.table a; limited = is_local_limit a }
+
+abbrev pub r_trivial_said : Values → Option PtWitness → Said
+r_trivial_said v a = record { text = r_trivial_text v.source.letters a; limited = false }
+
+abbrev pub commutative_said : Values → Option CWitness → Said
+commutative_said v a = record { text = commutative_text v.source.letters a; limited = false }
+
 -- what the section of an answer says
 abbrev pub said_of : Values → Answer → Said
 said_of v answer.Automaton =
     record { text = automaton_text v.source.letters v.automaton; limited = false }
 said_of v (answer.Monoid rules) = monoid_said v rules
 said_of v (answer.Green boxes) = green_said v boxes
+said_of v (answer.Piecewise a) = piecewise_said v a
+said_of v (answer.Local a) = local_said v a
+said_of v (answer.RTrivial a) = r_trivial_said v a
+said_of v (answer.Commutative a) = commutative_said v a
 said_of v answer.Table =
     record { text = section_text v.table v.limits.table; limited = is_none v.table }
 
@@ -122,6 +154,10 @@ abbrev pub IsSayable : Values → Answer → Type 0
 IsSayable v answer.Automaton = ⊤
 IsSayable v (answer.Monoid rules) = ArePresented v rules
 IsSayable v (answer.Green boxes) = AreBoxed v boxes
+IsSayable v (answer.Piecewise a) = IsPiecewiseOver (length v.source.letters) a
+IsSayable v (answer.Local a) = IsLocalOver (length v.source.letters) a
+IsSayable v (answer.RTrivial a) = IsRTrivialOver (length v.source.letters) a
+IsSayable v (answer.Commutative a) = IsCommutativeOver (length v.source.letters) a
 IsSayable v answer.Table = ⊤
 
 -- what the sections of several answers say, one after another

@@ -36,6 +36,10 @@ abbrev pub NeedsElements : Command → Type 0
 NeedsElements command.Automaton = ⊥
 NeedsElements command.Monoid = ⊤
 NeedsElements command.Green = ⊤
+NeedsElements command.Piecewise = ⊤
+NeedsElements command.Local = ⊤
+NeedsElements command.RTrivial = ⊤
+NeedsElements command.Commutative = ⊤
 NeedsElements command.Table = ⊤
 
 -- the command needs Green's classes
@@ -43,6 +47,10 @@ abbrev pub NeedsGreen : Command → Type 0
 NeedsGreen command.Automaton = ⊥
 NeedsGreen command.Monoid = ⊥
 NeedsGreen command.Green = ⊤
+NeedsGreen command.Piecewise = ⊤
+NeedsGreen command.Local = ⊥
+NeedsGreen command.RTrivial = ⊤
+NeedsGreen command.Commutative = ⊥
 NeedsGreen command.Table = ⊥
 
 -- the command needs the table of products
@@ -50,6 +58,10 @@ abbrev pub NeedsTable : Command → Type 0
 NeedsTable command.Automaton = ⊥
 NeedsTable command.Monoid = ⊥
 NeedsTable command.Green = ⊥
+NeedsTable command.Piecewise = ⊥
+NeedsTable command.Local = ⊤
+NeedsTable command.RTrivial = ⊥
+NeedsTable command.Commutative = ⊥
 NeedsTable command.Table = ⊤
 
 -- a source is within the limits of a request's counts

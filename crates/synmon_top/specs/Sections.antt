@@ -17,7 +17,18 @@ use Rattle.command_line.specs.declared.request.Request.{Request}
 use Rattle.report_text.specs.AutomatonSection.{automaton_text}
 use Rattle.report_text.specs.MonoidSection.{monoid_text}
 use Rattle.report_text.specs.GreenSection.{marked, green_text}
+use Rattle.report_text.specs.PiecewiseSection.{piecewise_text, is_piecewise_limit, r_trivial_text}
+use Rattle.report_text.specs.LocalSection.{local_text, is_local_limit}
+use Rattle.report_text.specs.CommutativeSection.{commutative_text}
 use Rattle.report_text.specs.TableSection.{section_text}
+use Rattle.locally_testable.specs.declared.answer.LtAnswer.{LtAnswer}
+use Rattle.locally_testable.specs.Answer.{IsLocalAnswer, Tells}
+use Rattle.piecewise_testable.specs.declared.answer.PtAnswer.{PtAnswer}
+use Rattle.piecewise_testable.specs.declared.witness.PtWitness.{PtWitness}
+use Rattle.piecewise_testable.specs.declared.witness.CWitness.{CWitness}
+use Rattle.piecewise_testable.specs.Answers.{IsPiecewiseAnswer}
+use Rattle.piecewise_testable.specs.Witness.{IsRTrivialAnswer}
+use Rattle.piecewise_testable.specs.Commuting.{IsCommutativeAnswer}
 use Rattle.synmon_top.specs.declared.sections.Section.{Section}
 use Rattle.synmon_top.specs.declared.sections.Section.TheVariants as section
 
@@ -47,6 +58,10 @@ abbrev pub sections_of : Command → List Section
 sections_of command.Automaton = section.Automaton ∷ []
 sections_of command.Monoid = section.Monoid ∷ []
 sections_of command.Green = section.Green ∷ []
+sections_of command.Piecewise = section.Piecewise ∷ []
+sections_of command.Local = section.Local ∷ []
+sections_of command.RTrivial = section.RTrivial ∷ []
+sections_of command.Commutative = section.Commutative ∷ []
 sections_of command.Table = section.Table ∷ []
 
 -- what a section says: its text, and whether the answer that it tells is a limit
@@ -91,6 +106,45 @@ pub record IsGreenSection (signs : List ℕ) (L : List ℕ → Type 0) (said : S
   pub text : said.text ≡ green_text signs (marked monoid.graphs.words idempotents) boxes
   pub unlimited : said.limited ≡ false
 
+-- The section `piecewise`: the least length of subwords that tells the language, words that no
+-- length tells apart, or the limit that was met.
+pub record IsPiecewiseSection (limits : Limits) (signs : List ℕ) (L : List ℕ → Type 0)
+    (said : Said) : Type 0 where
+  pub answer : PtAnswer
+  pub answered : IsPiecewiseAnswer (length signs) L limits.pairs limits.level answer
+  pub text : said.text ≡ piecewise_text signs answer
+  pub limited : said.limited ≡ is_piecewise_limit answer
+
+-- The section `local`: the least level of factors that tells the language, words that no level tells
+-- apart, or the limit that was met; a table of products is there where there are no more elements
+-- than its limit.
+pub record IsLocalSection (limits : Limits) (signs : List ℕ) (L : List ℕ → Type 0)
+    (said : Said) : Type 0 where
+  pub monoid : SyntacticMonoid
+  pub syntactic : IsSyntacticMonoid (length signs) L monoid
+  pub has_table : Bool
+  pub table : IsTrue has_table ↔ (length monoid.graphs.words ≤ limits.table)
+  pub answer : LtAnswer
+  pub answered : IsLocalAnswer (length signs) L monoid.graphs.words has_table limits.level
+      limits.pairs answer
+  pub tells : Tells (length signs) L answer
+  pub text : said.text ≡ local_text signs limits.table answer
+  pub limited : said.limited ≡ is_local_limit answer
+
+-- The section `rtrivial`: the syntactic monoid is R-trivial, or words show that it is not.
+pub record IsRTrivialSection (signs : List ℕ) (L : List ℕ → Type 0) (said : Said) : Type 0 where
+  pub answer : Option PtWitness
+  pub answered : IsRTrivialAnswer (length signs) L answer
+  pub text : said.text ≡ r_trivial_text signs answer
+  pub unlimited : said.limited ≡ false
+
+-- The section `commutative`: the syntactic monoid is commutative, or words show that it is not.
+pub record IsCommutativeSection (signs : List ℕ) (L : List ℕ → Type 0) (said : Said) : Type 0 where
+  pub answer : Option CWitness
+  pub answered : IsCommutativeAnswer (length signs) L answer
+  pub text : said.text ≡ commutative_text signs answer
+  pub unlimited : said.limited ≡ false
+
 -- the table has the products of the classes of a relation that have these representatives
 pub record AreProducts (same : List ℕ → List ℕ → Type 0) (words : List (List ℕ))
     (t : ProductTable) : Type 0 where
@@ -120,6 +174,10 @@ abbrev pub IsSection : Section → Limits → List ℕ → (List ℕ → Type 0)
 IsSection section.Automaton limits signs L said = IsAutomatonSection signs L said
 IsSection section.Monoid limits signs L said = IsMonoidSection signs L said
 IsSection section.Green limits signs L said = IsGreenSection signs L said
+IsSection section.Piecewise limits signs L said = IsPiecewiseSection limits signs L said
+IsSection section.Local limits signs L said = IsLocalSection limits signs L said
+IsSection section.RTrivial limits signs L said = IsRTrivialSection signs L said
+IsSection section.Commutative limits signs L said = IsCommutativeSection signs L said
 IsSection section.Table limits signs L said = IsTableSection limits.table signs L said
 
 -- what each of these sections says, one after another

@@ -5,13 +5,22 @@ ghost use Rattle.automaton_file.specs.FileText.{language_of};
 ghost use Rattle.synmon_top.specs.Sections.{IsSection, AreSections};
 ghost use Rattle.synmon_top.specs.Answers.{AreValues, HasNeeds, IsSayable, ArePresented, AreBoxed, HasGreen, values_of, monoid_said, green_said, said_of, said_of_all};
 
+use crate::questions::{
+    answer_commutative, answer_local, answer_piecewise, answer_r_trivial, is_local_limit,
+    is_piecewise_limit,
+};
 use crate::sections::Section;
 use automaton_file::Source;
 use command_line::Request;
 use green_relations::{Boxes, Green, boxes_of};
+use locally_testable::LtAnswer;
 use parallel_table::Table;
+use piecewise_testable::{CWitness, PtAnswer, PtWitness};
 use presentation::{Rules, rules_of};
-use report_text::{Buffer, SayFault, say_automaton, say_green, say_monoid, say_table};
+use report_text::{
+    Buffer, SayFault, say_automaton, say_commutative, say_green, say_local, say_monoid,
+    say_piecewise, say_r_trivial, say_table,
+};
 use std::alloc::Global;
 use subset_minimal::MinDfa;
 use syn_outside::Sink;
@@ -44,6 +53,14 @@ pub enum Answer {
     Monoid(Rules),
     /// The egg-box diagram of the syntactic monoid.
     Green(Boxes),
+    /// From which length on subwords tell the language, words that no length tells apart, or a limit.
+    Piecewise(PtAnswer),
+    /// From which length on factors tell the language, words that no length tells apart, or a limit.
+    Local(LtAnswer),
+    /// Words that show that the syntactic monoid is not R-trivial, if there are any.
+    RTrivial(Option<PtWitness>),
+    /// Letters that show that the syntactic monoid is not commutative, if there are any.
+    Commutative(Option<CWitness>),
     /// The products of all elements, or that there are more than the limit.
     Table,
 }
@@ -54,7 +71,13 @@ impl Answer {
         ensures { result ≡ (said_of (values_of values.now) self.now).limited }
     {
         match self {
-            Answer::Automaton | Answer::Monoid(_) | Answer::Green(_) => false,
+            Answer::Automaton
+            | Answer::Monoid(_)
+            | Answer::Green(_)
+            | Answer::RTrivial(_)
+            | Answer::Commutative(_) => false,
+            Answer::Piecewise(answer) => is_piecewise_limit(answer),
+            Answer::Local(answer) => is_local_limit(answer),
             Answer::Table => values.table.is_none(),
         }
     }
@@ -95,6 +118,10 @@ fn answer_section(alloc: Global, section: Section, values: &Values<'_>) -> Resul
         Section::Automaton => Ok(Answer::Automaton),
         Section::Monoid => answer_monoid(alloc, values),
         Section::Green => answer_green(alloc, values),
+        Section::Piecewise => answer_piecewise(alloc, values),
+        Section::Local => answer_local(alloc, values),
+        Section::RTrivial => answer_r_trivial(alloc, values),
+        Section::Commutative => answer_commutative(alloc, values),
         Section::Table => Ok(Answer::Table),
     }
 }
@@ -187,6 +214,19 @@ fn say_answer<S: Sink>(
         ),
         Answer::Monoid(rules) => say_rules_of(alloc, sink, buffer, values, rules),
         Answer::Green(boxes) => say_boxes_of(alloc, sink, buffer, values, boxes),
+        Answer::Piecewise(answer) => {
+            say_piecewise(alloc, sink, buffer, &values.source.alphabet, answer)
+        }
+        Answer::Local(answer) => {
+            let alphabet = &values.source.alphabet;
+            say_local(alloc, sink, buffer, alphabet, answer, values.request.table)
+        }
+        Answer::RTrivial(answer) => {
+            say_r_trivial(alloc, sink, buffer, &values.source.alphabet, answer)
+        }
+        Answer::Commutative(answer) => {
+            say_commutative(alloc, sink, buffer, &values.source.alphabet, answer)
+        }
         Answer::Table => say_table(
             alloc,
             sink,

@@ -4,6 +4,7 @@
 mod answers;
 mod ending;
 mod laws;
+mod questions;
 mod reporting;
 mod running;
 mod sections;

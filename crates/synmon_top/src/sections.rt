@@ -14,6 +14,14 @@ pub enum Section {
     Monoid,
     /// Green's classes of the syntactic monoid, as an egg-box diagram.
     Green,
+    /// Whether short subwords tell the language, and from which length on.
+    Piecewise,
+    /// Whether short factors tell the language, and from which length on.
+    Local,
+    /// Whether the syntactic monoid is R-trivial.
+    RTrivial,
+    /// Whether the syntactic monoid is commutative.
+    Commutative,
     /// The products of all elements.
     Table,
 }
@@ -26,6 +34,10 @@ pub(crate) fn sections_of(command: Command) -> &'static [Section]
         Command::Automaton => &[Section::Automaton],
         Command::Monoid => &[Section::Monoid],
         Command::Green => &[Section::Green],
+        Command::Piecewise => &[Section::Piecewise],
+        Command::Local => &[Section::Local],
+        Command::RTrivial => &[Section::RTrivial],
+        Command::Commutative => &[Section::Commutative],
         Command::Table => &[Section::Table],
     }
 }
@@ -36,7 +48,13 @@ pub(crate) fn needs_elements(command: Command) -> bool
 {
     match command {
         Command::Automaton => false,
-        Command::Monoid | Command::Green | Command::Table => true,
+        Command::Monoid
+        | Command::Green
+        | Command::Piecewise
+        | Command::Local
+        | Command::RTrivial
+        | Command::Commutative
+        | Command::Table => true,
     }
 }
 
@@ -45,8 +63,13 @@ pub(crate) fn needs_table(command: Command) -> bool
     ensures { IsTrue result ↔ NeedsTable command }
 {
     match command {
-        Command::Automaton | Command::Monoid | Command::Green => false,
-        Command::Table => true,
+        Command::Automaton
+        | Command::Monoid
+        | Command::Green
+        | Command::Piecewise
+        | Command::RTrivial
+        | Command::Commutative => false,
+        Command::Local | Command::Table => true,
     }
 }
 
@@ -55,7 +78,11 @@ pub(crate) fn needs_green(command: Command) -> bool
     ensures { IsTrue result ↔ NeedsGreen command }
 {
     match command {
-        Command::Automaton | Command::Monoid | Command::Table => false,
-        Command::Green => true,
+        Command::Automaton
+        | Command::Monoid
+        | Command::Local
+        | Command::Commutative
+        | Command::Table => false,
+        Command::Green | Command::Piecewise | Command::RTrivial => true,
     }
 }

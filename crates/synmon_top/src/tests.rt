@@ -113,7 +113,40 @@ const STOPPED: Row = Row {
 };
 
 /// Runs that write the whole text.
-const TEXTS: [Row; 19] = [
+const TEXTS: [Row; 25] = [
+    Row {
+        words: &["piecewise", "name"],
+        out: "piecewise no right\nu 1\ns a\nletter b\ny a\nv 1\nfirst out\n",
+        ..GOOD
+    },
+    Row {
+        words: &["local", "name"],
+        out: "local yes 2\n",
+        ..GOOD
+    },
+    Row {
+        words: &["local", "name"],
+        file: EVEN_AS,
+        out: "local no repeat\nu 1\nx b\ny a\nv 1\nfirst out\n",
+        ..GOOD
+    },
+    Row {
+        words: &["rtrivial", "name"],
+        file: EVEN_AS,
+        out: "rtrivial no\nu 1\ns 1\nletter a\ny a\nv 1\nfirst in\n",
+        ..GOOD
+    },
+    Row {
+        words: &["commutative", "name"],
+        out: "commutative no\nletters a b\nu 1\nv 1\nfirst in\n",
+        ..GOOD
+    },
+    Row {
+        words: &["commutative", "name"],
+        file: EVEN_AS,
+        out: "commutative yes\n",
+        ..GOOD
+    },
     Row {
         words: &["green", "name"],
         out: AB_STAR_GREEN,
@@ -211,7 +244,23 @@ const TEXTS: [Row; 19] = [
 ];
 
 /// Runs that pass a limit, before a section is made or in one.
-const STOPS: [Row; 7] = [
+const STOPS: [Row; 10] = [
+    Row {
+        words: &["local", "--table", "5", "name"],
+        out: "local limit table 5\n",
+        ..STOPPED
+    },
+    Row {
+        words: &["local", "--level", "1", "name"],
+        out: "local limit level 1\n",
+        ..STOPPED
+    },
+    Row {
+        words: &["piecewise", "--pairs", "1", "name"],
+        file: "synmon 1\nalphabet a\nexpr 1\n",
+        out: "piecewise limit pairs 0\n",
+        ..STOPPED
+    },
     Row {
         words: &["table", "--table", "5", "name"],
         out: "table limit 5\n",

@@ -42,6 +42,9 @@ returns-in-Err-ElementLimit-clause-ends g c =
 
 pub write_sections-requires-clause-values : goal.write_sections-requires-clause-values
 write_sections-requires-clause-values g c = record {
+  some_level = c.requires.some_level;
+  level = c.requires.level;
+  pairs = c.requires.pairs;
   minimal = c.in-Ok-minimal_of.ensures.minimal;
   syntactic = λ m there.
       monoid_of_source (source_text c.in-Ok.source) c.in-Ok-minimal_of.dfa m

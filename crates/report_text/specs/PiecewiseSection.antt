@@ -1,0 +1,67 @@
+-- The texts of the sections `piecewise` and `rtrivial`.
+use Rattle.std.specs.Prelude.{◌<◌, ◌++◌, ⊤, ℕ, Bool, true, false, List, codes, Option, Some, None}
+use Rattle.language_theory.specs.Words.{Over}
+use Rattle.piecewise_testable.specs.declared.witness.Side.{Side}
+use Rattle.piecewise_testable.specs.declared.witness.Side.TheVariants as side
+use Rattle.piecewise_testable.specs.declared.witness.PtWitness.{PtWitness}
+use Rattle.piecewise_testable.specs.declared.answer.PtAnswer.{PtAnswer}
+use Rattle.piecewise_testable.specs.declared.answer.PtAnswer.TheVariants as answer
+use Rattle.report_text.specs.Texts.{letter_text, number_line, word_line, first_line}
+
+-- the words of a witness are over k letters
+pub record IsWitnessOver (k : ℕ) (w : PtWitness) : Type 0 where
+  pub first : Over k w.u
+  pub element : Over k w.s
+  pub within : w.letter < k
+  pub back : Over k w.y
+  pub last : Over k w.v
+
+abbrev pub IsPiecewiseOver : ℕ → PtAnswer → Type 0
+IsPiecewiseOver k (answer.Yes n) = ⊤
+IsPiecewiseOver k (answer.No w) = IsWitnessOver k w
+IsPiecewiseOver k (answer.Wide n) = ⊤
+IsPiecewiseOver k (answer.Pairs n) = ⊤
+IsPiecewiseOver k (answer.NoneTo n) = ⊤
+
+abbrev pub IsRTrivialOver : ℕ → Option PtWitness → Type 0
+IsRTrivialOver k None = ⊤
+IsRTrivialOver k (Some w) = IsWitnessOver k w
+
+abbrev pub side_text : Side → List ℕ
+side_text side.Right = codes "right"
+side_text side.Left = codes "left"
+
+abbrev pub letter_line : List ℕ → ℕ → List ℕ
+letter_line signs a = codes "letter " ++ letter_text signs a ++ codes "\n"
+
+-- the words of a witness, each in a line
+abbrev pub witness_text : List ℕ → PtWitness → List ℕ
+witness_text signs w =
+    word_line signs (codes "u") w.u ++ word_line signs (codes "s") w.s
+    ++ letter_line signs w.letter
+    ++ word_line signs (codes "y") w.y ++ word_line signs (codes "v") w.v ++ first_line w.first_in
+
+abbrev pub no_head : PtWitness → List ℕ
+no_head w = codes "piecewise no " ++ side_text w.side ++ codes "\n"
+
+-- the section `piecewise`: the least level that suffices, words that no level tells apart, or the
+-- limit that was met
+abbrev pub piecewise_text : List ℕ → PtAnswer → List ℕ
+piecewise_text signs (answer.Yes n) = number_line (codes "piecewise yes") n
+piecewise_text signs (answer.No w) = no_head w ++ witness_text signs w
+piecewise_text signs (answer.Wide n) = number_line (codes "piecewise limit width") n
+piecewise_text signs (answer.Pairs n) = number_line (codes "piecewise limit pairs") n
+piecewise_text signs (answer.NoneTo n) = number_line (codes "piecewise limit level") n
+
+-- whether the answer is a limit
+abbrev pub is_piecewise_limit : PtAnswer → Bool
+is_piecewise_limit (answer.Yes n) = false
+is_piecewise_limit (answer.No w) = false
+is_piecewise_limit (answer.Wide n) = true
+is_piecewise_limit (answer.Pairs n) = true
+is_piecewise_limit (answer.NoneTo n) = true
+
+-- the section `rtrivial`: yes, or words that show that it is not
+abbrev pub r_trivial_text : List ℕ → Option PtWitness → List ℕ
+r_trivial_text signs None = codes "rtrivial yes\n"
+r_trivial_text signs (Some w) = codes "rtrivial no\n" ++ witness_text signs w

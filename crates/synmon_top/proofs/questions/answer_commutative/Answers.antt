@@ -1,0 +1,30 @@
+use Rattle.std.proofs.Common.{◌≡◌, length, Some, refl, subst, rules}
+use Rattle.language_theory.specs.ShortlexGraph.{SameNode}
+use Rattle.automaton_file.specs.FileText.{language_of}
+use Rattle.green_relations.specs.GreenClasses.{GreenClasses, AreGreens}
+use Rattle.syntactic_monoid.specs.SyntacticMonoid.{SyntacticMonoid}
+use Rattle.synmon_top.specs.Answers.{values_of}
+use Rattle.synmon_top.proofs.Recognised.{commutative_of_recognised, commutative_over}
+use Rattle.synmon_top.proofs.questions.answer_commutative.Goals as goal
+
+pub returns-clause-said : goal.returns-clause-said
+returns-clause-said c =
+    let v = values_of c.args.values.now in
+    let m = c.unwrap-monoid.result.now in
+    let there : v.monoid ≡ Some m = search rules in
+    record {
+      answer = c.in_ok-answer.answer;
+      answered = commutative_of_recognised (length v.source.letters) (language_of v.source) m
+          (c.requires.values.syntactic m there) c.in_ok-answer.answer c.in_ok-answer.ensures;
+      text = refl;
+      unlimited = refl;
+    }
+
+pub returns-clause-sayable : goal.returns-clause-sayable
+returns-clause-sayable c =
+    let v = values_of c.args.values.now in
+    let m = c.unwrap-monoid.result.now in
+    let there : v.monoid ≡ Some m = search rules in
+    commutative_over (length v.source.letters) (language_of v.source) c.in_ok-answer.answer
+    (commutative_of_recognised (length v.source.letters) (language_of v.source) m
+    (c.requires.values.syntactic m there) c.in_ok-answer.answer c.in_ok-answer.ensures)
