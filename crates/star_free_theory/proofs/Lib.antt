@@ -9,6 +9,7 @@ pub mod OneLetter
 pub mod Gives
 pub mod Meanings
 pub mod Pairs
+pub mod Denoting
 pub mod Taking
 pub mod Depths
 pub mod Joining

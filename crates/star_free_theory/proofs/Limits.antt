@@ -3,15 +3,7 @@ use Rattle.std.proofs.Common.{◌≡◌, ℕ, zero, suc, ◌≤◌, Bool, true, 
 use Rattle.std.proofs.Common.{subst, ◌∙◌, refl, inl, inr, arith, length, max, Option, Some, None}
 use Rattle.std.proofs.lemmas.Bool.{cases_Bool}
 use Rattle.star_free_theory.specs.declared.nodes.SfNode.TheVariants as node
-use Rattle.star_free_theory.specs.Construction.{nodes, Algebra, Outcome, Task, Treating, bind}
-use Rattle.star_free_theory.specs.Construction.{chosen, construction, count_from, depth, divisor}
-use Rattle.star_free_theory.specs.Construction.{done, each, ends, first_task, free, has, has_room}
-use Rattle.star_free_theory.specs.Construction.{is_none_left, join, join_all, join_finals}
-use Rattle.star_free_theory.specs.Construction.{join_pairs, opened, opened_list, opening, or_empty}
-use Rattle.star_free_theory.specs.Construction.{pairs, place, put, second_task, submonoid, take}
-use Rattle.star_free_theory.specs.Construction.{treat, treat_ends, treat_first, treat_second}
-use Rattle.star_free_theory.specs.Construction.{treat_whole, treat_within, when, whole_task, with}
-use Rattle.star_free_theory.specs.Construction.{without}
+use Rattle.star_free_theory.specs.Construction.{done, depth, nodes, Algebra, Outcome, Task, Treating, bind, chosen, construction, count_from, divisor, each, ends, first_task, free, has, has_room, is_none_left, join, join_all, join_finals, join_pairs, nodes, opened, opened_list, opening, or_empty, pairs, place, put, second_task, submonoid, take, treat, treat_ends, treat_first, treat_second, treat_whole, treat_within, when, whole_task, with, without}
 use Rattle.star_free_theory.specs.StarFree.{SfNode}
 
 -- where a value comes out of the first, it comes out of the second
@@ -39,21 +31,21 @@ module _ (most : Option ℕ) where
   ]
 
   goes_take : (xs : List SfNode) (x : SfNode) → Goes (take most xs x) (take None xs x)
-  goes_take xs node.Empty = goes_put (place node.Empty xs 0) xs node.Empty
-  goes_take xs node.Eps = goes_put (place node.Eps xs 0) xs node.Eps
-  goes_take xs (node.Letter a) = goes_put (place (node.Letter a) xs 0) xs (node.Letter a)
-  goes_take xs (node.Not i) = goes_put (place (node.Not i) xs 0) xs (node.Not i)
-  goes_take xs (node.Or i j) = goes_put (place (node.Or i j) xs 0) xs (node.Or i j)
+  goes_take xs node.Empty = goes_put (place node.Empty xs) xs node.Empty
+  goes_take xs node.Eps = goes_put (place node.Eps xs) xs node.Eps
+  goes_take xs (node.Letter a) = goes_put (place (node.Letter a) xs) xs (node.Letter a)
+  goes_take xs (node.Not i) = goes_put (place (node.Not i) xs) xs (node.Not i)
+  goes_take xs (node.Or i j) = goes_put (place (node.Or i j) xs) xs (node.Or i j)
   goes_take xs (node.Cat i j) = elim (cases_Bool (eqb i 2)) [
     | inl a ↦ rw a (goes_self (done (xs, j)))
     | inr a ↦ elim (cases_Bool (eqb j 2)) [
       | inl b ↦ rw (a, b) (goes_self (done (xs, i)))
-      | inr b ↦ rw (a, b) (goes_put (place (node.Cat i j) xs 0) xs (node.Cat i j))
+      | inr b ↦ rw (a, b) (goes_put (place (node.Cat i j) xs) xs (node.Cat i j))
     ]
   ]
   goes_take xs (node.And i j) = elim (cases_Bool (eqb i 1)) [
     | inl a ↦ rw a (goes_self (done (xs, j)))
-    | inr a ↦ rw a (goes_put (place (node.And i j) xs 0) xs (node.And i j))
+    | inr a ↦ rw a (goes_put (place (node.And i j) xs) xs (node.And i j))
   ]
 
   goes_each : (f g : List SfNode → ℕ → Outcome (List SfNode × ℕ))

@@ -4,54 +4,11 @@ use Rattle.std.proofs.Common.{sym, subst, ◌∙◌, ap, refl, inl, inr, arith, 
 use Rattle.std.proofs.lemmas.Bool.{cases_lt}
 use Rattle.std.proofs.lemmas.List.{length-append}
 use Rattle.star_free_theory.specs.declared.nodes.SfNode.TheVariants as node
-use Rattle.star_free_theory.specs.Pruning.{itself, part, IsAt, IsNeeded, IsPruning, IsRenumbered}
-use Rattle.star_free_theory.specs.Pruning.{Names, node_at, part}
-use Rattle.star_free_theory.specs.StarFree.{Denotes, IsStarFreeList, Meaning, NameEarlier}
-use Rattle.star_free_theory.specs.StarFree.{NamesBelow, SfNode}
-use Rattle.star_free_theory.specs.Treating.{Stands}
+use Rattle.star_free_theory.specs.Construction.{place}
+use Rattle.star_free_theory.specs.Pruning.{itself, IsAt, IsNeeded, IsPruning, IsRenumbered, Names, node_at, part}
+use Rattle.star_free_theory.specs.StarFree.{Denotes, IsStarFreeList, Meaning, NameEarlier, NamesBelow, SfNode}
+use Rattle.star_free_theory.proofs.Denoting.{denotes_at, earlier_at, earlier_by}
 use Rattle.star_free_theory.proofs.Fits.{Concat-more}
-use Rattle.star_free_theory.proofs.Taking.{head_stands}
-
-node_tail : (x : SfNode) (xs : List SfNode) (n : ℕ) → node_at (x ∷ xs) (suc n) ≡ node_at xs n
-node_tail x xs n = refl
-
--- each node names earlier ones, by its place
-pub earlier_at : (n : ℕ) (xs : List SfNode) (p : ℕ) → NameEarlier n xs → p < length xs
-    → NamesBelow (n + p) (node_at xs p)
-earlier_at n [] p e l = absurd (omega arith)
-earlier_at n (x ∷ xs) zero e l = let f : n ≡ n + 0 = omega arith in
-    subst (λ (m : ℕ). NamesBelow m x) f e.0
-earlier_at n (x ∷ xs) (suc p) e l = let f : suc n + p ≡ n + suc p = omega arith in
-    subst (λ (m : ℕ). NamesBelow m (node_at xs p)) f (earlier_at (suc n) xs p e.1 (omega arith))
-
-pub earlier_by : (n : ℕ) (xs : List SfNode)
-    → ((p : ℕ) → p < length xs → NamesBelow (n + p) (node_at xs p)) → NameEarlier n xs
-earlier_by n [] f = tt
-earlier_by n (x ∷ xs) f = (
-  let e : n + 0 ≡ n = omega arith in subst (λ (m : ℕ). NamesBelow m x) e (f 0 (omega arith)),
-  earlier_by (suc n) xs
-      (λ p l. let e : n + suc p ≡ suc n + p = omega arith in
-      subst (λ (m : ℕ). NamesBelow m (node_at xs p)) e (f (suc p) (omega arith))),
-)
-
--- a node denotes its meaning
-at_place : (k : ℕ) (zs ys : List SfNode) (n m : ℕ) → m ≡ length zs + n → NameEarlier (length zs) ys
-    → n < length ys → Stands k (zs ++ ys) m (Meaning k (node_at ys n) (Denotes k (zs ++ ys)))
-at_place k zs [] n m d e l = absurd (omega arith)
-at_place k zs (y ∷ ys) zero m d e l = let f : m ≡ length zs = omega arith in
-    subst (λ (i : ℕ). Stands k (zs ++ y ∷ ys) i (Meaning k y (Denotes k (zs ++ y ∷ ys)))) (sym f)
-    (head_stands k zs y ys e.0)
-at_place k zs (y ∷ ys) (suc n) m d e l =
-    let len = length-append zs (y ∷ []) in
-    let f : suc (length zs) ≡ length (zs ++ y ∷ []) = omega arith in
-    subst (λ (us : List SfNode). Stands k us m (Meaning k (node_at ys n) (Denotes k us)))
-    (append_assoc zs (y ∷ []) ys)
-    (at_place k (zs ++ y ∷ []) ys n m (omega arith) (subst (λ (i : ℕ). NameEarlier i ys) f e.1)
-    (omega arith))
-
-pub denotes_at : (k : ℕ) (xs : List SfNode) (n : ℕ) → NameEarlier 0 xs → n < length xs
-    → (w : List ℕ) → Denotes k xs n w ↔ Meaning k (node_at xs n) (Denotes k xs) w
-denotes_at k xs n e l w = (at_place k [] xs n n (omega arith) e l).means w
 
 -- parts of renumbered nodes
 

@@ -1,23 +1,23 @@
 -- Taking a node: it denotes what it says, and the list goes on naming earlier nodes.
-use Rattle.std.proofs.Common.{◌≡◌, ℕ, suc, ◌+◌, ◌<◌, true, false, cond, eqb, List, [], ◌∷◌, ◌++◌}
+use Rattle.std.proofs.Common.{◌&&◌, ◌≡◌, ℕ, suc, ◌+◌, ◌<◌, true, false, cond, eqb, List, [], ◌∷◌, ◌++◌}
 use Rattle.std.proofs.Common.{◌↔◌, append_assoc, sym, subst, ◌∙◌, ap, refl, ◌⊎◌, inl, inr, arith}
 use Rattle.std.proofs.Common.{length, Option, Some, None}
 use Rattle.std.proofs.lemmas.Bool.{eqb-true, cases_Bool}
 use Rattle.std.proofs.lemmas.Bool.Decides.{eqb_tells}
 use Rattle.std.proofs.lemmas.List.{append-nil, length-append}
+use Rattle.std.proofs.lemmas.List.Quantifiers.{position-Some}
 use Rattle.language_theory.specs.Words.{Over}
 use Rattle.star_free_theory.specs.declared.nodes.SfNode.TheVariants as node
 use Rattle.star_free_theory.specs.Construction.{has_room, opening, place, put, same_node, take}
-use Rattle.star_free_theory.specs.StarFree.{Concat, Denotes, Meaning, NameEarlier, NamesBelow}
-use Rattle.star_free_theory.specs.StarFree.{SfNode}
+use Rattle.star_free_theory.specs.Pruning.{node_at}
+use Rattle.star_free_theory.specs.StarFree.{Concat, Denotes, Meaning, NameEarlier, NamesBelow, SfNode}
 use Rattle.star_free_theory.specs.Treating.{Extends, IsBegun, Stands}
+use Rattle.star_free_theory.proofs.Denoting.{denotes_at}
 use Rattle.star_free_theory.proofs.Fits.{Concat-more}
 use Rattle.star_free_theory.proofs.Gives.{Gives, gives_as, gives_done}
-use Rattle.star_free_theory.proofs.Meanings.{denotes_over, extends_all, extends_one, extends_self}
-use Rattle.star_free_theory.proofs.Meanings.{in_opened, opening_one, opening_two, stands_alike}
-use Rattle.star_free_theory.proofs.Meanings.{stands_later, stands_one}
+use Rattle.star_free_theory.proofs.Meanings.{denotes_over, extends_one, extends_self, in_opened, opening_one, opening_two, stands_alike, stands_one}
 
-two_true : (a b c d : ℕ) → cond (eqb a b) (eqb c d) false ≡ true → (a ≡ b) × (c ≡ d)
+two_true : (a b c d : ℕ) → eqb a b && eqb c d ≡ true → (a ≡ b) × (c ≡ d)
 two_true a b c d e = elim (eqb_tells a b)
     [ inl k ↦ (k.1, eqb-true c d (rw k.0 at e)) | inr k ↦ let f : false ≡ true = rw k.0 at e in cc ]
 
@@ -33,56 +33,6 @@ same_equal (node.Or i j) (node.Or p q) e = let r = two_true i p j q e in let a :
 same_equal (node.And i j) (node.And p q) e = let r = two_true i p j q e in let a : i ≡ p = r.0 in
     let b : j ≡ q = r.1 in cc
 same_equal x y e = cc
-
--- what a node means hangs on the nodes that it names
-meaning_alike : (k n : ℕ) (x : SfNode) (M N : ℕ → List ℕ → Type 0) → NamesBelow n x
-    → ((i : ℕ) → i < n → (w : List ℕ) → M i w ↔ N i w) → (w : List ℕ) → Meaning k x M w
-    → Meaning k x N w
-meaning_alike k n node.Empty M N l f w i = i
-meaning_alike k n node.Eps M N l f w i = i
-meaning_alike k n (node.Letter a) M N l f w i = i
-meaning_alike k n (node.Not a) M N l f w i = (i.0, λ y. i.1 ((f a l w).1 y))
-meaning_alike k n (node.Cat a b) M N l f w i = Concat-more (M a) (M b) (N a) (N b)
-    (λ v. (f a l.0 v).0) (λ v. (f b l.1 v).0) w i
-meaning_alike k n (node.Or a b) M N l f w (inl i) = inl ((f a l.0 w).0 i)
-meaning_alike k n (node.Or a b) M N l f w (inr i) = inr ((f b l.1 w).0 i)
-meaning_alike k n (node.And a b) M N l f w i = ((f a l.0 w).0 i.0, (f b l.1 w).0 i.1)
-
--- a node in a list denotes its meaning
-pub head_stands : (k : ℕ) (zs : List SfNode) (y : SfNode) (ys : List SfNode)
-    → NamesBelow (length zs) y
-    → Stands k (zs ++ y ∷ ys) (length zs) (Meaning k y (Denotes k (zs ++ y ∷ ys)))
-head_stands k zs y ys l =
-    let all = zs ++ y ∷ ys in
-    let g : Extends k zs all = extends_all k zs (y ∷ ys) in
-    let h : Extends k (zs ++ y ∷ []) all = subst (Extends k (zs ++ y ∷ []))
-    (append_assoc zs (y ∷ []) ys) (extends_all k (zs ++ y ∷ []) ys) in
-    let q : Stands k all (length zs) (Meaning k y (Denotes k zs)) = stands_later k (zs ++ y ∷ [])
-    all (length zs) (Meaning k y (Denotes k zs)) h (stands_one k zs y) in
-    stands_alike k all (length zs) (Meaning k y (Denotes k zs)) (Meaning k y (Denotes k all))
-    (λ w. (
-      meaning_alike k (length zs) y (Denotes k zs) (Denotes k all) l
-          (λ i j v. let r = g.stays i j v in (r.1, r.0)) w,
-      meaning_alike k (length zs) y (Denotes k all) (Denotes k zs) l (λ i j v. g.stays i j v) w,
-    )) q
-
-found : (k : ℕ) (zs ys : List SfNode) (x : SfNode) (n m : ℕ) → n ≡ length zs → NameEarlier n ys
-    → place x ys n ≡ Some m → Stands k (zs ++ ys) m (Meaning k x (Denotes k (zs ++ ys)))
-found k zs [] x n m e o p = cc
-found k zs (y ∷ ys) x n m e o p = elim (cases_Bool (same_node x y)) [
-  | inl s ↦
-      let f : x ≡ y = same_equal x y s in
-      let a : Some n ≡ Some m = rw s at p in
-      let b : length zs ≡ m = let c : n ≡ m = cc in sym e ∙ c in
-      let all = zs ++ y ∷ ys in
-      let l : NamesBelow (length zs) y = subst (λ z. NamesBelow z y) e o.0 in
-      subst (λ z. Stands k all z (Meaning k x (Denotes k all))) b
-      (subst (λ z. Stands k all (length zs) (Meaning k z (Denotes k all))) (sym f)
-      (head_stands k zs y ys l))
-  | inr s ↦
-      subst (λ z. Stands k z m (Meaning k x (Denotes k z))) (append_assoc zs (y ∷ []) ys)
-      (found k (zs ++ y ∷ []) ys x (suc n) m (simp length-append (omega arith)) o.1 (rw s at p))
-]
 
 NameEarlier-append : (n : ℕ) (xs : List SfNode) (x : SfNode) (m : ℕ) → m ≡ n + length xs
     → NameEarlier n xs → NamesBelow m x → NameEarlier n (xs ++ x ∷ [])
@@ -134,16 +84,17 @@ pub record Took (k : ℕ) (xs : List SfNode) (L : List ℕ → Type 0) (r : List
   pub stands : Stands k r.0 r.1 L
 
 module _ (k : ℕ) (most : Option ℕ) where
-  put_right : (xs : List SfNode) (x : SfNode) (s : Option ℕ) → place x xs 0 ≡ s → IsBegun xs
+  put_right : (xs : List SfNode) (x : SfNode) (s : Option ℕ) → place x xs ≡ s → IsBegun xs
       → NamesBelow (length xs) x
       → Gives (most ≡ None) (put most s xs x) (Took k xs (Meaning k x (Denotes k xs)))
-  put_right xs x (Some n) e g l = gives_done (most ≡ None) (xs, n)
-      (Took k xs (Meaning k x (Denotes k xs)))
+  put_right xs x (Some n) e g l =
+      let r = position-Some (same_node x) xs n node.Empty e in
+      let f : x ≡ node_at xs n = same_equal x (node_at xs n) r.1 in
+      gives_done (most ≡ None) (xs, n) (Took k xs (Meaning k x (Denotes k xs)))
       (record {
         begun = g;
         extends = extends_self k xs;
-        stands = found k [] xs x 0 n refl g.earlier
-            e;
+        stands = record { there = r.0; means = λ w. subst (λ (y : SfNode). Denotes k xs n w ↔ Meaning k y (Denotes k xs) w) (sym f) (denotes_at k xs n g.earlier r.0 w) };
       })
   put_right xs x None e g l = elim (cases_Bool (has_room most (length xs))) [
     | inl r ↦ rw r (gives_done (most ≡ None) (xs ++ x ∷ [], length xs)
@@ -168,12 +119,12 @@ module _ (k : ℕ) (most : Option ℕ) where
 
   pub take_right : (xs : List SfNode) (x : SfNode) → IsBegun xs → NamesBelow (length xs) x
       → Gives (most ≡ None) (take most xs x) (Took k xs (Meaning k x (Denotes k xs)))
-  take_right xs node.Empty g l = put_right xs node.Empty (place node.Empty xs 0) refl g l
-  take_right xs node.Eps g l = put_right xs node.Eps (place node.Eps xs 0) refl g l
-  take_right xs (node.Letter a) g l = put_right xs (node.Letter a) (place (node.Letter a) xs 0) refl
+  take_right xs node.Empty g l = put_right xs node.Empty (place node.Empty xs) refl g l
+  take_right xs node.Eps g l = put_right xs node.Eps (place node.Eps xs) refl g l
+  take_right xs (node.Letter a) g l = put_right xs (node.Letter a) (place (node.Letter a) xs) refl
       g l
-  take_right xs (node.Not i) g l = put_right xs (node.Not i) (place (node.Not i) xs 0) refl g l
-  take_right xs (node.Or i j) g l = put_right xs (node.Or i j) (place (node.Or i j) xs 0) refl g l
+  take_right xs (node.Not i) g l = put_right xs (node.Not i) (place (node.Not i) xs) refl g l
+  take_right xs (node.Or i j) g l = put_right xs (node.Or i j) (place (node.Or i j) xs) refl g l
   take_right xs (node.Cat i j) g l = elim (eqb_tells i 2) [
     | inl a ↦ rw a.0 (gives_done (most ≡ None) (xs, j)
         (Took k xs (Meaning k (node.Cat i j) (Denotes k xs)))
@@ -194,7 +145,7 @@ module _ (k : ℕ) (most : Option ℕ) where
                 = subst (λ z. Stands k xs i (Concat (Denotes k xs i) (Denotes k xs z))) (sym b.1)
                 (eps_right k xs g i l.0);
           }))
-      | inr b ↦ rw (a.0, b.0) (put_right xs (node.Cat i j) (place (node.Cat i j) xs 0) refl g l)
+      | inr b ↦ rw (a.0, b.0) (put_right xs (node.Cat i j) (place (node.Cat i j) xs) refl g l)
     ]
   ]
   take_right xs (node.And i j) g l = elim (eqb_tells i 1) [
@@ -207,7 +158,7 @@ module _ (k : ℕ) (most : Option ℕ) where
               = subst (λ z. Stands k xs j (λ w. Denotes k xs z w × Denotes k xs j w)) (sym a.1)
               (all_left k xs g j l.1);
         }))
-    | inr a ↦ rw a.0 (put_right xs (node.And i j) (place (node.And i j) xs 0) refl g l)
+    | inr a ↦ rw a.0 (put_right xs (node.And i j) (place (node.And i j) xs) refl g l)
   ]
 
   -- taking a node whose meaning is known as L

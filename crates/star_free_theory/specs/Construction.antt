@@ -2,8 +2,9 @@
 -- star-free list of the words with accepted values (Schützenberger's theorem, after Diekert and
 -- Kufleitner's proof by local divisors). It is a recursion over lists of nodes that only grow. This
 -- exact list, in which equal nodes stand once, is this project's choice.
-use Rattle.std.specs.Prelude.{◌↔◌, ◌++◌, ℕ, zero, suc, Bool, true, false, cond, eqb}
+use Rattle.std.specs.Prelude.{◌↔◌, ◌++◌, ◌&&◌, ℕ, zero, suc, Bool, true, false, cond, eqb}
 use Rattle.std.specs.Prelude.{ltb, List, [], ◌∷◌, length, map, Option, Some, None}
+use Rattle.std.specs.List.{position}
 use Rattle.language_theory.specs.Words.{Over}
 use Rattle.star_free_theory.specs.LocalDivisor.{HasSettlingPowers}
 use Rattle.star_free_theory.specs.StarFree.{SfNode, Denotes}
@@ -28,15 +29,14 @@ same_node node.Empty node.Empty = true
 same_node node.Eps node.Eps = true
 same_node (node.Letter a) (node.Letter b) = eqb a b
 same_node (node.Not i) (node.Not p) = eqb i p
-same_node (node.Cat i j) (node.Cat p q) = cond (eqb i p) (eqb j q) false
-same_node (node.Or i j) (node.Or p q) = cond (eqb i p) (eqb j q) false
-same_node (node.And i j) (node.And p q) = cond (eqb i p) (eqb j q) false
+same_node (node.Cat i j) (node.Cat p q) = eqb i p && eqb j q
+same_node (node.Or i j) (node.Or p q) = eqb i p && eqb j q
+same_node (node.And i j) (node.And p q) = eqb i p && eqb j q
 same_node _ _ = false
 
--- the place of a node in a list whose first has the number n
-abbrev pub place : SfNode → List SfNode → ℕ → Option ℕ
-place x [] n = None
-place x (y ∷ ys) n = cond (same_node x y) (Some n) (place x ys (suc n))
+-- the place of a node in a list
+abbrev pub place : SfNode → List SfNode → Option ℕ
+place x xs = position (same_node x) xs
 
 -- there is room for one more node; without a limit, always
 abbrev pub has_room : Option ℕ → ℕ → Bool
@@ -53,10 +53,10 @@ put most None xs x = cond (has_room most (length xs)) (done (xs ++ x ∷ [], len
 abbrev pub take : Option ℕ → List SfNode → SfNode → Outcome (List SfNode × ℕ)
 take most xs (node.Cat i j) =
     cond (eqb i 2) (done (xs, j))
-    (cond (eqb j 2) (done (xs, i)) (put most (place (node.Cat i j) xs 0) xs (node.Cat i j)))
+    (cond (eqb j 2) (done (xs, i)) (put most (place (node.Cat i j) xs) xs (node.Cat i j)))
 take most xs (node.And i j) =
-    cond (eqb i 1) (done (xs, j)) (put most (place (node.And i j) xs 0) xs (node.And i j))
-take most xs x = put most (place x xs 0) xs x
+    cond (eqb i 1) (done (xs, j)) (put most (place (node.And i j) xs) xs (node.And i j))
+take most xs x = put most (place x xs) xs x
 
 -- ## Finite monoids as lists
 

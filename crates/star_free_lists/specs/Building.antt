@@ -1,0 +1,50 @@
+-- What a step that makes a list of nodes grow comes to.
+use Rattle.std.specs.Prelude.{◌≡◌, ◌<◌, ℕ, List, Result, Ok, Err, Option, Some, None, cond, eqb, All, slice_index, slice_index_or, length, drop, []}
+use Rattle.star_free_theory.specs.declared.nodes.SfNode.TheVariants as node
+use Rattle.star_free_theory.specs.declared.nodes.SfNode.{SfNode}
+use Rattle.star_free_theory.specs.Construction.{Outcome, done, depth, nodes, each}
+use Rattle.star_free_lists.specs.declared.faults.SfFault.{SfFault}
+use Rattle.star_free_lists.specs.declared.faults.SfFault.TheVariants as fault
+
+-- what a step answers is what it comes to in the definitions: a value, with the nodes that are there
+-- then, or the limit that it meets first. Want of memory may come at any time.
+abbrev pub Answers : {A : Type 0} → Outcome (List SfNode × A) → List SfNode → Result A SfFault
+    → Type 0
+Answers o list (Ok a) = o ≡ done (list, a)
+Answers o list (Err fault.Depth) = o ≡ depth
+Answers o list (Err fault.Nodes) = o ≡ nodes
+Answers o list (Err fault.Memory) = Unit {0}
+
+-- the same for a step that gives a table of numbers
+abbrev pub AnswersTable : {V : Type 0} → (V → List ℕ) → Outcome (List SfNode × (ℕ → ℕ))
+    → List SfNode → Result V SfFault → Type 0
+AnswersTable items o list (Ok v) =
+    (E : ℕ → ℕ) × (o ≡ done (list, E))
+    × ((p : ℕ) → p < length (items v) → E p ≡ slice_index (items v) p)
+AnswersTable items o list (Err fault.Depth) = o ≡ depth
+AnswersTable items o list (Err fault.Nodes) = o ≡ nodes
+AnswersTable items o list (Err fault.Memory) = Unit {0}
+
+-- where one part says nothing, the other
+abbrev pub neutral : SfNode → Option ℕ
+neutral (node.Cat i j) = cond (eqb i 2) (Some j) (cond (eqb j 2) (Some i) None)
+neutral (node.And i j) = cond (eqb i 1) (Some j) None
+neutral _ = None
+
+-- the numbers of each pair are below n and m
+pub record ArePairsWithin (n m : ℕ) (ps : List (ℕ × ℕ)) : Type 0 where
+  pub within : All (λ p. (p.0 < n) × (p.1 < m)) ps
+
+-- each element has a start and a group, whose pairs have numbers below n and m
+pub record CanJoin (n m side : ℕ) (groups : List (List (ℕ × ℕ))) (elements : List ℕ) : Type 0 where
+  pub long : length groups ≡ side
+  pub elements_within : All (λ u. u < side) elements
+  pub pairs : (u : ℕ) → u < side → ArePairsWithin n m (slice_index_or groups u [])
+
+-- Of a loop that gives each of some elements a number: what is left from place i on comes to what
+-- all comes to, and the table has the numbers so far.
+pub record IsSoFar (f : List SfNode → ℕ → Outcome (List SfNode × ℕ)) (ts : List ℕ) (i : ℕ)
+    (start now : List SfNode) (table : List ℕ) : Type 0 where
+  pub numbers : ℕ → ℕ
+  pub rest : each f (drop i ts) numbers now ≡ each f ts (λ p. 0) start
+  pub told : (p : ℕ) → p < length table → numbers p ≡ slice_index table p

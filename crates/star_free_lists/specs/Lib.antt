@@ -1,0 +1,5 @@
+pub mod SfList
+pub mod Building
+pub mod Instances
+pub mod Tasks
+pub mod Finishing
