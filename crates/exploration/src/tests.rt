@@ -1,5 +1,6 @@
-//! Worked examples, and each call that can want memory on its happy path.
-ghost use Rattle.std.specs.Prelude.{◌≡◌, [], length, IfSome};
+//! Worked examples, and each call that can want memory on its happy path. What a test compares is made by functions of
+//! its own, so that each is proved by itself.
+ghost use Rattle.std.specs.Prelude.{◌≡◌, ◌<◌, ◌-◌, ◌^◌, [], length, IfSome};
 ghost use Rattle.exploration.specs.Table.{IsTable};
 
 use crate::table::TableStates;
@@ -12,6 +13,7 @@ use syn_words::Memory;
 /// that no word reaches (0).
 const AB_STAR: [u32; 10] = [0, 2, 1, 1, 4, 1, 4, 1, 1, 3];
 
+/// A table of states, where the targets are complete and in range.
 fn table(
     alloc: Global,
     states: u32,
@@ -28,6 +30,23 @@ fn table(
     None
 }
 
+/// The graph of a table; the limit where there is no table.
+fn explored(
+    alloc: Global,
+    states: u32,
+    letters: u8,
+    start: u32,
+    targets: &[u32],
+    most: u32,
+) -> Result<ShortlexGraph, ExploreFault>
+    requires { most < 2 ^ 32 - 1 }
+{
+    match table(alloc, states, letters, start, targets) {
+        None => Err(ExploreFault::Limit),
+        Some(mut states) => explore(alloc, &mut states, most),
+    }
+}
+
 fn targets_of(alloc: Global, graph: &ShortlexGraph) -> Result<Vec<u32>, Memory> {
     let mut targets = Vec::new(alloc);
     for node in 0..graph.size() {
@@ -38,58 +57,110 @@ fn targets_of(alloc: Global, graph: &ShortlexGraph) -> Result<Vec<u32>, Memory> 
     Ok(targets)
 }
 
+/// The least words of the nodes of a table's graph, as the digits of their letters, each with a `.` behind it.
+fn words_text(
+    alloc: Global,
+    states: u32,
+    letters: u8,
+    start: u32,
+    targets: &[u32],
+) -> Result<Vec<u8>, ExploreFault> {
+    let mut text = Vec::new(alloc);
+    if let Some(mut states) = table(alloc, states, letters, start, targets) {
+        let graph = explore(alloc, &mut states, 90)?;
+        for word in graph.least_words(alloc)?.iter() {
+            for letter in word.letters() {
+                text.push(letter.wrapping_add(b'0'))?;
+            }
+            text.push(b'.')?;
+        }
+    }
+    Ok(text)
+}
+
+/// The targets of the quotient of a graph by the classes of its marks; none where a mark is missing.
+fn quotient_targets(
+    alloc: Global,
+    graph: &ShortlexGraph,
+    marks: &[bool],
+) -> Result<Vec<u32>, Memory> {
+    if marks.len() != graph.size() as usize {
+        return Ok(Vec::new(alloc));
+    }
+    let partition = refine(alloc, graph, marks)?;
+    let firsts = first_nodes(alloc, graph, &partition)?;
+    let minimal = quotient(alloc, graph, &partition, firsts.as_slice())?;
+    targets_of(alloc, &minimal)
+}
+
+/// The classes of the nodes of a graph by marks; none where a mark is missing.
+fn classes(alloc: Global, graph: &ShortlexGraph, marks: &[bool]) -> Result<Vec<u32>, Memory> {
+    if marks.len() != graph.size() as usize {
+        return Ok(Vec::new(alloc));
+    }
+    let partition = refine(alloc, graph, marks)?;
+    Ok(Vec::from_slice(alloc, partition.classes())?)
+}
+
 #[test]
 fn explores_ab_star(rt: HostRuntime) -> Result<(), Fail> {
     let alloc = rt.alloc();
-    let mut states = table(alloc, 5, 2, 2, &AB_STAR).expect(&rt, "a table");
-    let graph = explore(alloc, &mut states, 4)?;
-    assert_eq!(rt;
-        targets_of(alloc, &graph)?.as_slice(),
-        [1, 2, 2, 3, 2, 2, 1, 2].as_slice()
-    );
-    assert_eq!(rt; graph.size(), 4);
-    assert_eq!(rt; states.state(1), 4);
-    let words = graph.least_words(alloc)?;
-    assert_eq!(rt; words.len(), 4);
-    assert_eq!(rt; words[3].letters(), b"\x00\x01".as_slice());
+    let graph = explored(alloc, 5, 2, 2, &AB_STAR, 4)?;
+    let targets = targets_of(alloc, &graph)?;
+    assert_eq!(rt; targets.as_slice(), [1, 2, 2, 3, 2, 2, 1, 2].as_slice());
+    let words = words_text(alloc, 5, 2, 2, &AB_STAR)?;
+    assert_eq!(rt; words.as_slice(), b".0.1.01.".as_slice());
     Ok(())
 }
 
 #[test]
 fn stops_at_the_limit(rt: HostRuntime) {
-    let mut states = table(rt.alloc(), 5, 2, 2, &AB_STAR).expect(&rt, "a table");
-    let fault = explore(rt.alloc(), &mut states, 3).err();
+    let fault = explored(rt.alloc(), 5, 2, 2, &AB_STAR, 3).err();
     assert_eq!(rt; fault, Some(ExploreFault::Limit));
 }
 
 #[test]
 fn minimises_ab_star(rt: HostRuntime) -> Result<(), Fail> {
     let alloc = rt.alloc();
-    let mut states = table(alloc, 5, 2, 2, &AB_STAR).expect(&rt, "a table");
-    let graph = explore(alloc, &mut states, 90)?;
-    assert_eq!(rt; graph.size(), 4);
-    let partition = refine(alloc, &graph, &[true, false, false, true])?;
-    assert_eq!(rt; partition.count(), 3);
-    assert_eq!(rt; partition.classes(), [0, 1, 2, 0].as_slice());
-    let firsts = first_nodes(alloc, &graph, &partition)?;
-    assert_eq!(rt; firsts.as_slice(), [0, 1, 2].as_slice());
-    let minimal = quotient(alloc, &graph, &partition, firsts.as_slice())?;
-    assert_eq!(rt;
-        targets_of(alloc, &minimal)?.as_slice(),
-        [1, 2, 2, 0, 2, 2].as_slice()
-    );
+    let graph = explored(alloc, 5, 2, 2, &AB_STAR, 90)?;
+    let marks = [true, false, false, true];
+    let classes = classes(alloc, &graph, &marks)?;
+    assert_eq!(rt; classes.as_slice(), [0, 1, 2, 0].as_slice());
+    let targets = quotient_targets(alloc, &graph, &marks)?;
+    assert_eq!(rt; targets.as_slice(), [1, 2, 2, 0, 2, 2].as_slice());
     Ok(())
 }
 
 #[test]
 fn refines_in_several_rounds(rt: HostRuntime) -> Result<(), Fail> {
-    let mut states = table(rt.alloc(), 5, 1, 0, &[1, 2, 3, 4, 4]).expect(&rt, "a table");
-    let graph = explore(rt.alloc(), &mut states, 5)?;
-    assert_eq!(rt; graph.size(), 5);
-    let partition = refine(rt.alloc(), &graph, &[false, false, false, false, true])?;
-    assert_eq!(rt; partition.classes(), [0, 1, 2, 3, 4].as_slice());
-    assert_eq!(rt; partition.class_of(3), 3);
+    let alloc = rt.alloc();
+    let graph = explored(alloc, 5, 1, 0, &[1, 2, 3, 4, 4], 5)?;
+    let classes = classes(alloc, &graph, &[false, false, false, false, true])?;
+    assert_eq!(rt; classes.as_slice(), [0, 1, 2, 3, 4].as_slice());
     Ok(())
+}
+
+/// The targets of a chain of nodes by the first letter, each back to its first node by the second.
+fn chain(alloc: Global, size: u32) -> Result<Vec<u32>, Memory> {
+    let mut targets = Vec::new(alloc);
+    for node in 1..=size {
+        targets.push(if node < size {
+            node
+        } else {
+            size.wrapping_sub(1)
+        })?;
+        targets.push(0)?;
+    }
+    Ok(targets)
+}
+
+/// Marks of which the last alone is set.
+fn last_marked(alloc: Global, size: u32) -> Result<Vec<bool>, Memory> {
+    let mut marks = Vec::new(alloc);
+    for node in 1..=size {
+        marks.push(node == size)?;
+    }
+    Ok(marks)
 }
 
 /// A chain of 64,000 nodes whose last one is marked: each node is a class of its own. Moore's rounds alone, one for each
@@ -97,20 +168,11 @@ fn refines_in_several_rounds(rt: HostRuntime) -> Result<(), Fail> {
 #[test]
 fn refines_a_long_chain(rt: HostRuntime) -> Result<(), Fail> {
     let alloc = rt.alloc();
-    let size = 64_000;
-    let mut targets = Vec::new(alloc);
-    for node in 0..size {
-        targets.push(if node + 1 < size { node + 1 } else { node })?;
-        targets.push(0)?;
-    }
-    let mut states = table(alloc, size, 2, 0, targets.as_slice()).expect(&rt, "a table");
-    let graph = explore(alloc, &mut states, size)?;
-    let mut marks = Vec::new(alloc);
-    for node in 0..graph.size() {
-        marks.push(node + 1 == graph.size())?;
-    }
-    assert!(rt; marks.len() == graph.size() as usize);
-    let partition = refine(alloc, &graph, marks.as_slice())?;
-    assert_eq!(rt; partition.count(), size);
+    let chain = chain(alloc, 64_000)?;
+    let graph = explored(alloc, 64_000, 2, 0, chain.as_slice(), 64_000)?;
+    let marks = last_marked(alloc, 64_000)?;
+    let classes = classes(alloc, &graph, marks.as_slice())?;
+    assert_eq!(rt; classes.len(), 64_000);
+    assert_eq!(rt; classes.last(), Some(&63_999));
     Ok(())
 }

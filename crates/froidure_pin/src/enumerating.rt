@@ -168,6 +168,8 @@ fn prepare<R: Threads + Sync, G: Gate + Sync>(
     if element < machine.batch.end {
         return Ok(());
     }
+    // The memory of the batch that is used up is given back before that of the next one is taken.
+    machine.batch = Batch::new(machine.alloc);
     machine.batch = make_batch(rt, gate, workers, machine, targets, element)?;
     Ok(())
 }

@@ -96,6 +96,16 @@ fn multiplies_as_maps(all: &Enumerated) -> bool {
     true
 }
 
+/// Whether the elements of an enumeration are those of the plain closure, and both graphs multiply as maps do.
+fn is_the_closure(all: &Enumerated, closure: &IndexSet<u32>) -> bool {
+    for element in 0..all.cayley.len() {
+        if !closure.contains(&code(map_of(all.rows.row(element)))) {
+            return false;
+        }
+    }
+    all.cayley.len() as usize == closure.len() && multiplies_as_maps(all)
+}
+
 #[test]
 fn full_transformations_4(rt: HostRuntime) -> Result<(), Fail> {
     let alloc = rt.alloc();
@@ -104,13 +114,15 @@ fn full_transformations_4(rt: HostRuntime) -> Result<(), Fail> {
     assert_eq!(rt; closure.len(), 256);
     for workers in [1, 2, 7, 64] {
         let all = enumerate(&rt, alloc, &generators, 256, workers, &OpenGate)?;
-        assert_eq!(rt; all.cayley.len(), 256);
-        for element in 0..all.cayley.len() {
-            assert!(rt; closure.contains(&code(map_of(all.rows.row(element)))));
-        }
-        assert!(rt; multiplies_as_maps(&all));
+        assert!(rt; is_the_closure(&all, &closure));
     }
-    let few = enumerate(&rt, alloc, &generators, 255, 1, &OpenGate);
+    Ok(())
+}
+
+#[test]
+fn keeps_the_limit(rt: HostRuntime) -> Result<(), Fail> {
+    let generators = full_transformations(rt.alloc(), 4)?;
+    let few = enumerate(&rt, rt.alloc(), &generators, 255, 1, &OpenGate);
     assert_eq!(rt; few.err(), Some(EnumFault::ElementLimit));
     Ok(())
 }
@@ -134,7 +146,13 @@ fn full_transformations_6(rt: HostRuntime) -> Result<(), Fail> {
     let all = enumerate(&rt, alloc, &generators, 46_656, 2, &OpenGate)?;
     assert_eq!(rt; all.cayley.len(), 46_656);
     assert_eq!(rt; idempotents(&all), 1_057);
-    let few = enumerate(&rt, alloc, &generators, 46_655, 1, &OpenGate);
+    Ok(())
+}
+
+#[test]
+fn keeps_a_large_limit(rt: HostRuntime) -> Result<(), Fail> {
+    let generators = full_transformations(rt.alloc(), 6)?;
+    let few = enumerate(&rt, rt.alloc(), &generators, 46_655, 1, &OpenGate);
     assert_eq!(rt; few.err(), Some(EnumFault::ElementLimit));
     Ok(())
 }

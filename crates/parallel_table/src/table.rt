@@ -1,7 +1,7 @@
 //! The table of all products as a value of the program.
 ghost use Rattle.std.specs.Prelude.{◌≡◌, ◌<◌, ◌≤◌, length, IfOk, OnOk};
 ghost use Rattle.std.specs.Result.{IsErrOf};
-ghost use Rattle.parallel_table.specs.ProductTables.{cell};
+ghost use Rattle.parallel_table.specs.ProductTables.{IsSquare, cell};
 
 use cayley_tables::Cayley;
 use std::alloc::{AllocError, Global};
@@ -69,6 +69,7 @@ impl Table {
     pub fn side(&self) -> u32
         ensures side { result ≡ self.now.side }
         ensures few { result ≤ 8000 }
+        ensures square { IsSquare self.now }
     {
         self.side
     }

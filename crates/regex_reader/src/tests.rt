@@ -62,33 +62,50 @@ fn counts_nodes(rt: HostRuntime) -> Result<(), ExprFault> {
     Ok(())
 }
 
-#[test]
-fn keeps_the_limits(rt: HostRuntime) -> Result<(), ExprFault> {
-    let alloc = rt.alloc();
-    let letters = vec![in alloc; b'a'; 2001usize]?;
-    assert_eq!(rt; count_nodes(alloc, &letters[..2000])?, 3999);
-    assert!(rt;
-        matches!(
-            count_nodes(alloc, &letters),
-            Err(ExprFault::TooLarge { at: 2000 })
-        )
-    );
-    let mut deep = vec![in alloc; b'('; 201usize]?;
-    assert!(rt;
-        matches!(
-            count_nodes(alloc, &deep),
-            Err(ExprFault::TooDeep { at: 200 })
-        )
-    );
-    deep.truncate(200);
-    deep.push(b'a')?;
-    for _ in 0..200u32 {
-        deep.push(b')')?;
+/// As many open parentheses as `depth`, a letter, and as many closed ones.
+fn nested(alloc: Global, depth: u32) -> Result<Vec<u8>, Memory> {
+    let mut text = Vec::new(alloc);
+    for _ in 0..depth {
+        text.push(b'(')?;
     }
-    assert_eq!(rt; count_nodes(alloc, &deep)?, 1);
-    let mut stars = vec![in alloc; b'*'; 4000usize]?;
-    stars[0] = b'a';
-    assert_eq!(rt; count_nodes(alloc, &stars)?, 4000);
+    text.push(b'a')?;
+    for _ in 0..depth {
+        text.push(b')')?;
+    }
+    Ok(text)
+}
+
+/// A letter, and as many of one byte behind it.
+fn followed(alloc: Global, by: u8, count: u32) -> Result<Vec<u8>, Memory> {
+    let mut text = Vec::new(alloc);
+    text.push(b'a')?;
+    for _ in 0..count {
+        text.push(by)?;
+    }
+    Ok(text)
+}
+
+#[test]
+fn keeps_the_limit_of_nodes(rt: HostRuntime) -> Result<(), ExprFault> {
+    let alloc = rt.alloc();
+    let letters = followed(alloc, b'a', 1999)?;
+    assert_eq!(rt; count_nodes(alloc, letters.as_slice())?, 3999);
+    let letters = followed(alloc, b'a', 2000)?;
+    let fault = count_nodes(alloc, letters.as_slice());
+    assert!(rt; matches!(fault, Err(ExprFault::TooLarge { at: 2000 })));
+    let stars = followed(alloc, b'*', 3999)?;
+    assert_eq!(rt; count_nodes(alloc, stars.as_slice())?, 4000);
+    Ok(())
+}
+
+#[test]
+fn keeps_the_limit_of_depth(rt: HostRuntime) -> Result<(), ExprFault> {
+    let alloc = rt.alloc();
+    let deep = nested(alloc, 200)?;
+    assert_eq!(rt; count_nodes(alloc, deep.as_slice())?, 1);
+    let deeper = nested(alloc, 201)?;
+    let fault = count_nodes(alloc, deeper.as_slice());
+    assert!(rt; matches!(fault, Err(ExprFault::TooDeep { at: 200 })));
     Ok(())
 }
 
