@@ -1,8 +1,10 @@
 -- What is chosen of an instance in flat tables.
-use Rattle.std.proofs.Common.{◌≡◌, ◌<◌, ℕ, List, [], ◌∷◌, length, slice_index, All, sym, subst, inl, inr, arith, refl, Bool, suc, zero}
+use Rattle.std.proofs.Common.{◌≡◌, ◌<◌, ◌==◌, ℕ, List, [], ◌∷◌, length, slice_index, All, sym}
+use Rattle.std.proofs.Common.{subst, inl, inr, arith, refl, Bool, suc, zero}
+use Rattle.std.proofs.lemmas.Bool.Decides.{eqb_tells}
 use Rattle.language_theory.specs.Automaton.{is_marked}
 use Rattle.star_free_theory.specs.Instance.{Among}
-use Rattle.star_free_theory.specs.Construction.{keep, without, span, first_other}
+use Rattle.star_free_theory.specs.Construction.{keep, without, span, first_other, is_none_left}
 use Rattle.star_free_theory.proofs.FiniteLists.{without_among}
 use Rattle.star_free_theory.proofs.Parts.{IsSpan}
 use Rattle.star_free_theory.proofs.Spans.{span_spans}
@@ -26,7 +28,8 @@ module _ (p : Multiplication) (t : Flat) (h : IsReady p t) (many : ¬ (length t.
   letter = first_other (slice_index t.images) t.identity t.letters
 
   pub letter_in : Among t.letters letter
-  letter_in = (other_found t.elements t.letters (times p) t.identity (slice_index t.images) h.generated many).0
+  letter_in = (other_found t.elements t.letters (times p) t.identity (slice_index t.images)
+      h.generated many).0
 
   pub letter_within : letter < length t.images
   letter_within = all_among (length t.images) t.letters letter h.letters_within letter_in
@@ -38,15 +41,32 @@ module _ (p : Multiplication) (t : Flat) (h : IsReady p t) (many : ¬ (length t.
   image_within = h.images_within letter 0 letter_within
 
   pub identity_within : t.identity < p.table.side
-  identity_within = all_among p.table.side t.elements t.identity h.elements_within h.generated.monoid.one_in
+  identity_within = all_among p.table.side t.elements t.identity h.elements_within
+      h.generated.monoid.one_in
 
   pub others_within : All (λ a. a < length t.images) (without letter t.letters)
-  others_within = among_all (length t.images) (without letter t.letters) (λ a i. all_among (length t.images) t.letters a h.letters_within (without_among letter t.letters a i).0)
+  others_within = among_all (length t.images) (without letter t.letters)
+      (λ a i. all_among (length t.images) t.letters a h.letters_within
+      (without_among letter t.letters a i).0)
 
-  pub choice_spans : IsSpan (times p) t.identity (slice_index t.images) (without letter t.letters) (span (times p) t.identity (slice_index t.images) (without letter t.letters) t.elements)
-  choice_spans = span_spans (times p) t.identity (slice_index t.images) (without letter t.letters) t.elements h.generated.monoid h.generated.distinct (λ a i. h.generated.images a (without_among letter t.letters a i).0)
+  pub choice_spans : IsSpan (times p) t.identity (slice_index t.images) (without letter t.letters)
+      (span (times p) t.identity (slice_index t.images) (without letter t.letters) t.elements)
+  choice_spans = span_spans (times p) t.identity (slice_index t.images) (without letter t.letters)
+      t.elements h.generated.monoid h.generated.distinct (λ a i. h.generated.images a
+      (without_among letter t.letters a i).0)
 
-  pub submonoid_marked : (marks : List Bool) → AreSpanMarks p t.identity (without letter t.letters) t.images marks
-      → keep (is_marked marks) t.elements ≡ span (times p) t.identity (slice_index t.images) (without letter t.letters) t.elements
-  submonoid_marked marks m = marks_span (times p) t.identity (slice_index t.images) (without letter t.letters) t.elements (is_marked marks) choice_spans
+  pub submonoid_marked : (marks : List Bool) → AreSpanMarks p t.identity (without letter t.letters)
+      t.images marks
+      → keep (is_marked marks) t.elements ≡ span (times p) t.identity (slice_index t.images)
+      (without letter t.letters) t.elements
+  submonoid_marked marks m = marks_span (times p) t.identity (slice_index t.images)
+      (without letter t.letters) t.elements (is_marked marks) choice_spans
       (λ x i e. m.spelled x (all_among p.table.side t.elements x h.elements_within i) e) m.holds
+
+pub none_left : (xs : List ℕ) → (length xs == 0) ≡ is_none_left xs
+none_left [] = refl
+none_left (x ∷ xs) = elim (eqb_tells (length (x ∷ xs)) 0) [
+  | inl d ↦ absurd (let e = d.1 in
+      omega arith)
+  | inr d ↦ d.0
+]

@@ -1,5 +1,6 @@
 -- The test of equal nodes, by which an index set finds one, is that of the definitions.
-use Rattle.std.proofs.Common.{◌≡◌, ◌<◌, ◌≤◌, ◌+◌, ◌∙◌, ℕ, Bool, false, List, [], ◌∷◌, ◌++◌, Option, Some, None, length, refl, sym, ap, inl, inr, arith}
+use Rattle.std.proofs.Common.{◌≡◌, ◌<◌, ◌≤◌, ◌+◌, ◌∙◌, ℕ, Bool, false, List, [], ◌∷◌, ◌++◌, Option}
+use Rattle.std.proofs.Common.{Some, None, length, refl, sym, ap, inl, inr, arith}
 use Rattle.std.specs.List.{position, position_or_len, list_any}
 use Rattle.std.proofs.lemmas.Bool.{cases_lt, lt-ltb, le-ltb}
 use Rattle.std.proofs.lemmas.List.{length-append}
@@ -68,33 +69,45 @@ pub same_position : (x : SfNode) (xs : List SfNode) → position (test x) xs ≡
 same_position x xs = ap (λ (f : SfNode → Bool). position f xs) (λ j y. test_is_same x y j)
 
 -- a node that is found
-pub put_found : (most : Option ℕ) (x : SfNode) (xs : List SfNode) (p : ℕ) → position (test x) xs ≡ Some p → put most (place x xs) xs x ≡ done (xs, p)
+pub put_found : (most : Option ℕ) (x : SfNode) (xs : List SfNode) (p : ℕ)
+    → position (test x) xs ≡ Some p → put most (place x xs) xs x ≡ done (xs, p)
 put_found most x xs p e = ap (λ (s : Option ℕ). put most s xs x) (sym (same_position x xs) ∙ e)
 
 none_of : (x : SfNode) (xs : List SfNode) → position (test x) xs ≡ None → place x xs ≡ None
 none_of x xs e = sym (same_position x xs) ∙ e
 
-pub put_full : (m : ℕ) (x : SfNode) (xs : List SfNode) → position (test x) xs ≡ None → m ≤ length xs → put (Some m) (place x xs) xs x ≡ nodes
-put_full m x xs e l = ap (λ (s : Option ℕ). put (Some m) s xs x) (none_of x xs e) ∙ rw (le-ltb (length xs) m l) refl
+pub put_full : (m : ℕ) (x : SfNode) (xs : List SfNode) → position (test x) xs ≡ None → m ≤ length xs
+    → put (Some m) (place x xs) xs x ≡ nodes
+put_full m x xs e l = ap (λ (s : Option ℕ). put (Some m) s xs x) (none_of x xs e)
+    ∙ rw (le-ltb (length xs) m l) refl
 
-pub put_more : (m : ℕ) (x : SfNode) (xs : List SfNode) → position (test x) xs ≡ None → length xs < m → put (Some m) (place x xs) xs x ≡ done (xs ++ x ∷ [], length xs)
-put_more m x xs e l = ap (λ (s : Option ℕ). put (Some m) s xs x) (none_of x xs e) ∙ rw (lt-ltb (length xs) m l) refl
+pub put_more : (m : ℕ) (x : SfNode) (xs : List SfNode) → position (test x) xs ≡ None → length xs < m
+    → put (Some m) (place x xs) xs x ≡ done (xs ++ x ∷ [], length xs)
+put_more m x xs e l = ap (λ (s : Option ℕ). put (Some m) s xs x) (none_of x xs e)
+    ∙ rw (lt-ltb (length xs) m l) refl
 
 -- where it is not found, it would be put at the end
-pub at_end : (x : SfNode) (xs : List SfNode) → position (test x) xs ≡ None → length xs ≤ position_or_len (test x) xs
+pub at_end : (x : SfNode) (xs : List SfNode) → position (test x) xs ≡ None
+    → length xs ≤ position_or_len (test x) xs
 at_end x xs e = elim (cases_lt (position_or_len (test x) xs) (length xs)) [
   | inr l ↦ l
-  | inl l ↦ absurd (let f : Some (position_or_len (test x) xs) ≡ None = sym (rw (lt-ltb (position_or_len (test x) xs) (length xs) l) refl) ∙ e in cc)
+  | inl l ↦ absurd (let f : Some (position_or_len (test x) xs) ≡ None =
+      sym (rw (lt-ltb (position_or_len (test x) xs) (length xs) l) refl) ∙ e in cc)
 ]
 
-pub inserted : (x : SfNode) (xs : List SfNode) → list_any (test x) xs ≡ false → insert_key test xs x ≡ xs ++ x ∷ []
+pub inserted : (x : SfNode) (xs : List SfNode) → list_any (test x) xs ≡ false
+    → insert_key test xs x ≡ xs ++ x ∷ []
 inserted x xs e = rw e refl
 
 -- a node that is inserted
-pub put_new : (m : ℕ) (x : SfNode) (xs ys : List SfNode) (i : ℕ) → position (test x) xs ≡ None → list_any (test x) xs ≡ false → length xs < m → ys ≡ insert_key test xs x → i ≡ position_or_len (test x) xs → i < length ys → put (Some m) (place x xs) xs x ≡ done (ys, i)
+pub put_new : (m : ℕ) (x : SfNode) (xs ys : List SfNode) (i : ℕ) → position (test x) xs ≡ None
+    → list_any (test x) xs ≡ false → length xs < m → ys ≡ insert_key test xs x
+    → i ≡ position_or_len (test x) xs → i < length ys → put (Some m) (place x xs) xs x
+    ≡ done (ys, i)
 put_new m x xs ys i none any l e f w =
     let g : ys ≡ xs ++ x ∷ [] = e ∙ inserted x xs any in
     let n = at_end x xs none in
-    let len : length ys ≡ length xs + 1 = ap (λ (zs : List SfNode). length zs) g ∙ length-append xs (x ∷ []) in
+    let len : length ys ≡ length xs + 1 = ap (λ (zs : List SfNode). length zs) g
+    ∙ length-append xs (x ∷ []) in
     let h : i ≡ length xs = omega arith in
     put_more m x xs none l ∙ rw (g, h) refl

@@ -5,3 +5,13 @@ pub mod Alike
 pub mod Choosing
 pub mod Making
 pub mod Finishing
+pub mod Recursing
+pub mod Keeping
+pub mod Letters
+pub mod Distinct
+pub mod Sizes
+pub mod WholeMonoid
+pub mod Examples
+pub mod Needed
+pub mod OnePruning
+pub mod Factors

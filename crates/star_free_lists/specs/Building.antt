@@ -1,19 +1,26 @@
 -- What a step that makes a list of nodes grow comes to.
-use Rattle.std.specs.Prelude.{◌≡◌, ◌<◌, ℕ, List, Result, Ok, Err, Option, Some, None, cond, eqb, All, slice_index, slice_index_or, length, drop, []}
+use Rattle.std.specs.Prelude.{◌≡◌, ◌<◌, ℕ, List, Result, Ok, Err, Option, Some, None, cond, eqb}
+use Rattle.std.specs.Prelude.{All, slice_index, slice_index_or, length, drop, []}
 use Rattle.star_free_theory.specs.declared.nodes.SfNode.TheVariants as node
 use Rattle.star_free_theory.specs.declared.nodes.SfNode.{SfNode}
-use Rattle.star_free_theory.specs.Construction.{Outcome, done, depth, nodes, each}
+use Rattle.star_free_theory.specs.Construction.{Outcome, bind, done, depth, nodes, each}
+use Rattle.star_free_theory.specs.Construction.{join_finals, or_empty}
 use Rattle.star_free_lists.specs.declared.faults.SfFault.{SfFault}
 use Rattle.star_free_lists.specs.declared.faults.SfFault.TheVariants as fault
 
--- what a step answers is what it comes to in the definitions: a value, with the nodes that are there
--- then, or the limit that it meets first. Want of memory may come at any time.
+-- the limit that is met first; want of memory may come at any time
+abbrev pub Stops : {A : Type 0} → Outcome A → SfFault → Type 0
+Stops o fault.Depth = o ≡ depth
+Stops o fault.Nodes = o ≡ nodes
+Stops o fault.Memory = Unit {0}
+
+-- what a step answers is what it comes to in the definitions: a value, with the nodes that are
+-- there
+-- then, or why it stops
 abbrev pub Answers : {A : Type 0} → Outcome (List SfNode × A) → List SfNode → Result A SfFault
     → Type 0
 Answers o list (Ok a) = o ≡ done (list, a)
-Answers o list (Err fault.Depth) = o ≡ depth
-Answers o list (Err fault.Nodes) = o ≡ nodes
-Answers o list (Err fault.Memory) = Unit {0}
+Answers o list (Err e) = Stops o e
 
 -- the same for a step that gives a table of numbers
 abbrev pub AnswersTable : {V : Type 0} → (V → List ℕ) → Outcome (List SfNode × (ℕ → ℕ))
@@ -21,9 +28,18 @@ abbrev pub AnswersTable : {V : Type 0} → (V → List ℕ) → Outcome (List Sf
 AnswersTable items o list (Ok v) =
     (E : ℕ → ℕ) × (o ≡ done (list, E))
     × ((p : ℕ) → p < length (items v) → E p ≡ slice_index (items v) p)
-AnswersTable items o list (Err fault.Depth) = o ≡ depth
-AnswersTable items o list (Err fault.Nodes) = o ≡ nodes
-AnswersTable items o list (Err fault.Memory) = Unit {0}
+AnswersTable items o list (Err e) = Stops o e
+
+-- the same for a step whose value stands in a relation to what it comes to
+abbrev pub AnswersAs : {A V : Type 0} → (V → A → Type 0) → Outcome (List SfNode × A) → List SfNode
+    → Result V SfFault → Type 0
+AnswersAs {A = A} R o list (Ok v) = (a : A) × (o ≡ done (list, a)) × R v a
+AnswersAs R o list (Err e) = Stops o e
+
+-- the nodes of elements, joined, or that of no word
+abbrev pub joined_finals : Option ℕ → (ℕ → ℕ) → List ℕ → List SfNode → Outcome (List SfNode × ℕ)
+joined_finals most E finals xs =
+    bind (join_finals most E finals None xs) (λ r. done (r.0, or_empty r.1))
 
 -- where one part says nothing, the other
 abbrev pub neutral : SfNode → Option ℕ

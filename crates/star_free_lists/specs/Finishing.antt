@@ -1,18 +1,21 @@
 -- The last steps of treating an instance, in flat tables.
-use Rattle.std.specs.Prelude.{◌≡◌, ◌<◌, ℕ, List, Option, None, length, slice_index, slice_index_or, All, Result, Ok, Err}
+use Rattle.std.specs.Prelude.{◌≡◌, ◌<◌, ℕ, List, Option, None, length, slice_index, slice_index_or}
+use Rattle.std.specs.Prelude.{All}
 use Rattle.star_free_theory.specs.declared.nodes.SfNode.{SfNode}
-use Rattle.star_free_theory.specs.Construction.{Outcome, bind, each, join_all, pairs, ends, when, has, done, depth, nodes}
-use Rattle.star_free_lists.specs.declared.faults.SfFault.{SfFault}
-use Rattle.star_free_lists.specs.declared.faults.SfFault.TheVariants as fault
+use Rattle.star_free_theory.specs.Construction.{Outcome, bind, each, join_all, pairs, ends, when}
+use Rattle.star_free_theory.specs.Construction.{has}
 use Rattle.star_free_lists.specs.Instances.{Multiplication, times}
 
 -- from the nodes e of the submonoid's elements, b of the second instance's letters and f of its
 -- elements: a node for each product, and then one for each element
-abbrev pub finished : Option ℕ → Multiplication → (elements sub div e b f : List ℕ) → List SfNode → Outcome (List SfNode × (ℕ → ℕ))
+abbrev pub finished : Option ℕ → Multiplication → (elements sub div e b f : List ℕ) → List SfNode
+    → Outcome (List SfNode × (ℕ → ℕ))
 finished most p elements sub div e b f xs =
     bind
-    (each (λ ys u. join_all most (slice_index f) (slice_index b) None (pairs (times p) div sub u) ys) (ends (times p) div sub elements) (λ p. 0) xs)
-    (λ g. each (λ ys u. join_all most (slice_index e) g.1 (when (has sub u) (slice_index e u)) (pairs (times p) sub (ends (times p) div sub elements) u) ys) elements (λ p. 0) g.0)
+    (each (λ ys u. join_all most (slice_index f) (slice_index b) None (pairs (times p) div sub u)
+    ys) (ends (times p) div sub elements) (λ p. 0) xs)
+    (λ g. each (λ ys u. join_all most (slice_index e) g.1 (when (has sub u) (slice_index e u))
+    (pairs (times p) sub (ends (times p) div sub elements) u) ys) elements (λ p. 0) g.0)
 
 -- the elements have places in the tables
 pub record CanFinish (side : ℕ) (elements sub div e b f : List ℕ) : Type 0 where
@@ -26,15 +29,5 @@ pub record CanFinish (side : ℕ) (elements sub div e b f : List ℕ) : Type 0 w
 -- what a node joins start with: the node of an element of the submonoid
 pub record AreStarts (sub e : List ℕ) (starts : List (Option ℕ)) : Type 0 where
   pub long : length starts ≡ length e
-  pub each : (u : ℕ) → u < length e → slice_index_or starts u None ≡ when (has sub u) (slice_index e u)
-
--- a step that gives two tables of numbers
-abbrev pub AnswersBoth : {V : Type 0} → (V → List ℕ) → (V → List ℕ) → Outcome (List SfNode × ((ℕ → ℕ) × (ℕ → ℕ)))
-    → List SfNode → Result V SfFault → Type 0
-AnswersBoth items others o list (Ok v) =
-    (B F : ℕ → ℕ) × (o ≡ done (list, (B, F)))
-    × ((p : ℕ) → p < length (items v) → B p ≡ slice_index (items v) p)
-    × ((p : ℕ) → p < length (others v) → F p ≡ slice_index (others v) p)
-AnswersBoth items others o list (Err fault.Depth) = o ≡ depth
-AnswersBoth items others o list (Err fault.Nodes) = o ≡ nodes
-AnswersBoth items others o list (Err fault.Memory) = Unit {0}
+  pub each : (u : ℕ) → u < length e → slice_index_or starts u None ≡ when (has sub u)
+      (slice_index e u)

@@ -1,6 +1,7 @@
 -- The finite monoids of instances, in flat tables. All products are those of one table: in an
 -- instance made by a local divisor, the second factor is exchanged for another one first.
-use Rattle.std.specs.Prelude.{◌≡◌, ◌<◌, ◌⊎◌, ◌++◌, ℕ, Bool, true, false, slice_set, List, [], ◌∷◌, length, slice_index, slice_index_or}
+use Rattle.std.specs.Prelude.{◌≡◌, ◌<◌, ◌⊎◌, ◌++◌, ℕ, Bool, true, false, slice_set, List, [], ◌∷◌}
+use Rattle.std.specs.Prelude.{length, slice_index, slice_index_or}
 use Rattle.language_theory.specs.Automaton.{is_marked}
 use Rattle.parallel_table.specs.ProductTables.{ProductTable, cell}
 use Rattle.star_free_theory.specs.Instance.{Among, Distinct, AllAmong, value}
@@ -38,17 +39,21 @@ pub record AreLocalFactors (p : Multiplication) (m : ℕ) (elements list : List 
       × (slice_index list (times p m y) ≡ slice_index p.factors z)
 
 -- for each number the pairs with that product
-pub record AreGroups (p : Multiplication) (rs ts : List ℕ) (groups : List (List (ℕ × ℕ))) : Type 0 where
-  pub long : length groups ≡ p.table.side
-  pub each : (u : ℕ) → u < p.table.side → slice_index_or groups u [] ≡ pairs (times p) rs ts u
+pub record AreGroups (p : Multiplication) (rs ts : List ℕ) (groups : List (List (ℕ × ℕ))) : Type 0
+  where
+    pub long : length groups ≡ p.table.side
+    pub each : (u : ℕ) → u < p.table.side → slice_index_or groups u [] ≡ pairs (times p) rs ts u
 
 -- the pairs of r with each t are put behind those of their products
-pub record AreRowAdded (p : Multiplication) (r : ℕ) (ts : List ℕ) (old new : List (List (ℕ × ℕ))) : Type 0 where
+pub record AreRowAdded (p : Multiplication) (r : ℕ) (ts : List ℕ) (old new : List (List (ℕ × ℕ))) :
+    Type 0 where
   pub long : length new ≡ length old
-  pub each : (u : ℕ) → u < length old → slice_index_or new u [] ≡ slice_index_or old u [] ++ row (times p) r ts u
+  pub each : (u : ℕ) → u < length old → slice_index_or new u [] ≡ slice_index_or old u [] ++ row
+      (times p) r ts u
 
 -- what a search for the products of images has found, and its marks
-pub record IsSearch (p : Multiplication) (one : ℕ) (letters images found : List ℕ) (marks : List Bool) : Type 0 where
+pub record IsSearch (p : Multiplication) (one : ℕ) (letters images found : List ℕ)
+    (marks : List Bool) : Type 0 where
   pub long : length marks ≡ p.table.side
   pub first : Among found one
   pub distinct : Distinct found
@@ -65,12 +70,14 @@ IsNoted y found marks found' marks' =
     ⊎ ((is_marked marks y ≡ false) × (found' ≡ found ++ y ∷ []) × (marks' ≡ slice_set marks y true))
 
 -- a search that goes on keeps what it found, and has the products of images with x
-pub record GoesOn (p : Multiplication) (letters images : List ℕ) (x : ℕ) (old new : List ℕ) : Type 0 where
-  pub keeps : (rest : List ℕ) × (new ≡ old ++ rest)
-  pub steps : (a : ℕ) → Among letters a → Among new (times p (slice_index images a) x)
+pub record GoesOn (p : Multiplication) (letters images : List ℕ) (x : ℕ) (old new : List ℕ) : Type 0
+  where
+    pub keeps : (rest : List ℕ) × (new ≡ old ++ rest)
+    pub steps : (a : ℕ) → Among letters a → Among new (times p (slice_index images a) x)
 
 -- the marks are those of the products of letters' images
-pub record AreSpanMarks (p : Multiplication) (one : ℕ) (letters images : List ℕ) (marks : List Bool) : Type 0 where
+pub record AreSpanMarks (p : Multiplication) (one : ℕ) (letters images : List ℕ) (marks : List Bool)
+    : Type 0 where
   pub long : length marks ≡ p.table.side
   pub spelled : (x : ℕ) → x < p.table.side → is_marked marks x ≡ true
       → (ls : List ℕ) × AllAmong letters ls × (value (times p) one (slice_index images) ls ≡ x)

@@ -3,3 +3,8 @@ pub mod Building
 pub mod Instances
 pub mod Tasks
 pub mod Finishing
+pub mod Recursion
+pub mod Constructing
+pub mod Examples
+pub mod Pruning
+pub mod Accepting

@@ -35,13 +35,15 @@ task_with t product image node =
     }
 
 -- the functions are those of the tables, at the elements and letters
-pub record AreShown (p : Multiplication) (t : Flat) (product : ℕ → ℕ → ℕ) (image node : ℕ → ℕ) : Type 0 where
+pub record AreShown (p : Multiplication) (t : Flat) (product : ℕ → ℕ → ℕ) (image node : ℕ → ℕ) :
+    Type 0 where
   pub products : (x y : ℕ) → Among t.elements x → Among t.elements y → times p x y ≡ product x y
   pub images : (a : ℕ) → Among t.letters a → slice_index t.images a ≡ image a
   pub nodes : (a : ℕ) → Among t.letters a → node a ≡ slice_index t.nodes a
 
 -- the chosen letter, the others, the submonoid that they generate, and the local divisor
-pub record IsChosen (p : Multiplication) (t : Flat) (letter : ℕ) (others submonoid divisor : List ℕ) : Type 0 where
+pub record IsChosen (p : Multiplication) (t : Flat) (letter : ℕ) (others submonoid divisor : List ℕ)
+    : Type 0 where
   pub letter_is : letter ≡ first_other (slice_index t.images) t.identity t.letters
   pub others_are : others ≡ without letter t.letters
   pub submonoid_is : submonoid ≡ span (times p) t.identity (slice_index t.images) others t.elements

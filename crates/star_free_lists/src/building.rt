@@ -1,13 +1,17 @@
 //! A list of nodes that grows, in which equal nodes stand once.
-ghost use Rattle.std.specs.Prelude.{◌≡◌, ◌<◌, ◌^◌, ℕ, length, slice_index, IfOk, Some};
-ghost use Rattle.star_free_theory.specs.Construction.{opening, put, place, take, join, join_pairs, join_all, free, opened};
-ghost use Rattle.star_free_lists.specs.Building.{Answers, ArePairsWithin, neutral};
+ghost use Rattle.std.specs.Prelude.{◌≡◌, ◌<◌, ◌^◌, ℕ, length, slice_index, IfOk, None, Some, All};
+ghost use Rattle.star_free_theory.specs.Construction.{opening, put, place, take, join, join_pairs};
+ghost use Rattle.star_free_theory.specs.Construction.{join_all, join_finals, free, opened};
+ghost use Rattle.star_free_lists.specs.Building.{Answers, ArePairsWithin, neutral, joined_finals};
+ghost use Rattle.star_free_lists.specs.SfList.{IsSfList};
 
 use crate::faults::SfFault;
+use crate::list::SfList;
 use indexmap::IndexSet;
 use star_free_theory::SfNode;
 use std::alloc::Global;
 use std::marker::Model;
+use syn_words::Memory;
 
 /// The nodes so far. The calls that may put one more are told the most that there may be.
 #[derive(Drop)]
@@ -27,6 +31,26 @@ impl Model for Builder {
 }
 
 impl Builder {
+    /// The list that each construction begins with: no word, all words, and the empty word.
+    pub(crate) fn opening(alloc: Global) -> Result<Builder, Memory>
+        ensures { IfOk result (λ b. b ≡ opening) }
+    {
+        let mut nodes = IndexSet::new(alloc);
+        nodes.insert(SfNode::Empty)?;
+        nodes.insert(SfNode::Not(0))?;
+        nodes.insert(SfNode::Eps)?;
+        Ok(Builder { nodes })
+    }
+
+    /// The list with one of its nodes as the root. Condition: it is a list.
+    pub(crate) fn with_root(&self, alloc: Global, root: u32) -> Result<SfList, Memory>
+        requires { IsSfList (record { nodes = self.now; root = root }) }
+        ensures { IfOk result (λ l. l ≡ record { nodes = self.now; root = root }) }
+    {
+        let list = SfList::of(alloc, self.nodes.as_slice(), root)?;
+        Ok(list)
+    }
+
     /// The number of a node that is there, or of this one, which is then put behind the list.
     fn put(&mut self, most: u32, node: SfNode) -> Result<u32, SfFault>
         ensures { Answers (put (Some most) (place node self.old) self.old node) self.new result }
@@ -105,6 +129,43 @@ impl Builder {
             (slice_index second.now) start pairs.now self.old) self.new result }
     {
         let joined = self.join_pairs(most, first, second, start, pairs)?;
+        match joined {
+            None => Ok(0),
+            Some(number) => Ok(number),
+        }
+    }
+
+    /// Joins the nodes of some elements. Condition: each has one.
+    fn join_elements(
+        &mut self,
+        most: u32,
+        nodes: &[u32],
+        elements: &[u32],
+    ) -> Result<Option<u32>, SfFault>
+        requires { All (λ p. p < length nodes.now) elements.now }
+        ensures { Answers (join_finals (Some most) (slice_index nodes.now) elements.now None
+            self.old) self.new result }
+    {
+        let mut joined = None;
+        for &element in elements {
+            let number = self.join(most, joined, nodes[element as usize])?;
+            joined = Some(number);
+        }
+        Ok(joined)
+    }
+
+    /// The node of some elements' nodes, joined; that of no word where there is none. Condition: each has one.
+    pub(crate) fn join_finals(
+        &mut self,
+        most: u32,
+        nodes: &[u32],
+        finals: &[u32],
+    ) -> Result<u32, SfFault>
+        requires { All (λ p. p < length nodes.now) finals.now }
+        ensures { Answers (joined_finals (Some most) (slice_index nodes.now) finals.now self.old)
+            self.new result }
+    {
+        let joined = self.join_elements(most, nodes, finals)?;
         match joined {
             None => Ok(0),
             Some(number) => Ok(number),

@@ -1,9 +1,14 @@
 //! The finite monoids of instances, in flat tables.
-ghost use Rattle.std.specs.Prelude.{◌≡◌, ◌<◌, ◌≤◌, ℕ, [], length, slice_index, slice_index_or, vec_items, map, replicate, IfOk, OnOk, All};
+ghost use Rattle.std.specs.Prelude.{◌≡◌, ◌<◌, ◌≤◌, ℕ, [], length, slice_index, slice_index_or};
+ghost use Rattle.std.specs.Prelude.{vec_items, map, replicate, IfOk, OnOk, All};
 ghost use Rattle.language_theory.specs.Automaton.{is_marked};
 ghost use Rattle.star_free_theory.specs.Instance.{Among};
-ghost use Rattle.star_free_theory.specs.Construction.{first_other, without, keep, local_elements, is_some_pair};
-ghost use Rattle.star_free_lists.specs.Instances.{Multiplication, IsMultiplication, times, middle, AreMiddles, AreLocalFactors, AreGroups, AreRowAdded, IsSearch, GoesOn, IsNoted, AreSpanMarks};
+ghost use Rattle.star_free_theory.specs.Construction.{first_other, without, keep, local_elements};
+ghost use Rattle.star_free_theory.specs.Construction.{is_some_pair};
+ghost use Rattle.star_free_lists.specs.Instances.{Multiplication, IsMultiplication, times, middle};
+ghost use Rattle.star_free_lists.specs.Instances.{AreMiddles, AreLocalFactors, AreGroups};
+ghost use Rattle.star_free_lists.specs.Instances.{AreRowAdded, IsSearch, GoesOn, IsNoted};
+ghost use Rattle.star_free_lists.specs.Instances.{AreSpanMarks};
 
 use parallel_table::Table;
 use std::alloc::Global;
@@ -14,7 +19,7 @@ use syn_words::Memory;
 #[derive(Drop)]
 pub(crate) struct Product<'a> {
     table: &'a Table,
-    factors: &'a [u32],
+    factors: Vec<u32>,
 }
 
 impl<'a> Model for Product<'a> {
@@ -22,23 +27,26 @@ impl<'a> Model for Product<'a> {
 
     ghost Value = { Multiplication };
 
-    ghost view = { λ p. record { table = p.table.now; factors = p.factors.now } };
+    ghost view = { λ p. record { table = p.table.now; factors = p.factors.items } };
 
-    ghost invariant = { λ p. IsMultiplication (record { table = p.table.now; factors = p.factors.now }) };
+    ghost invariant = { λ p. IsMultiplication
+        (record { table = p.table.now; factors = p.factors.items }) };
 }
 
 impl<'a> Product<'a> {
-    pub(crate) fn new(table: &'a Table, factors: &'a [u32]) -> Product<'a>
-        requires { IsMultiplication (record { table = table.now; factors = factors.now }) }
-        ensures { result ≡ record { table = table.now; factors = factors.now } }
+    pub(crate) fn new(table: &'a Table, factors: Vec<u32>) -> Product<'a>
+        requires { IsMultiplication (record { table = table.now; factors = factors.items }) }
+        ensures { result ≡ record { table = table.now; factors = factors.items } }
     {
         Product { table, factors }
     }
 
-    /// The product with other second factors.
-    pub(crate) fn with<'b>(&'b self, factors: &'b [u32]) -> Product<'b>
-        requires { IsMultiplication (record { table = self.now.table; factors = factors.now }) }
-        ensures { result ≡ record { table = self.now.table; factors = factors.now } }
+    /// The product with other second factors. Condition: each number has one in range.
+    pub(crate) fn with(&self, factors: Vec<u32>) -> Product<'a>
+        requires long { length factors.items ≡ self.now.table.side }
+        requires within { (y : ℕ) → y < self.now.table.side
+            → slice_index factors.items y < self.now.table.side }
+        ensures { result ≡ record { table = self.now.table; factors = factors.items } }
     {
         Product {
             table: self.table,
@@ -215,7 +223,8 @@ fn add_row(
     requires first { r < product.now.table.side }
     requires second { All (λ x. x < product.now.table.side) ts.now }
     requires long { length groups.old.items ≡ product.now.table.side }
-    ensures { OnOk result (AreRowAdded product.now r ts.now (map vec_items groups.old.items) (map vec_items groups.new.items)) }
+    ensures { OnOk result (AreRowAdded product.now r ts.now (map vec_items groups.old.items)
+        (map vec_items groups.new.items)) }
 {
     for &t in ts {
         groups[product.times(r, t) as usize].push((r, t))?;

@@ -41,6 +41,14 @@ impl SfList {
         Ok(SfList { nodes, root })
     }
 
+    /// The list of nodes that stand in a vector. Condition: that of `of`.
+    pub(crate) fn from_nodes(nodes: Vec<SfNode>, root: u32) -> SfList
+        requires { IsSfList (record { nodes = nodes.items; root = root }) }
+        ensures { result ≡ record { nodes = nodes.items; root = root } }
+    {
+        SfList { nodes, root }
+    }
+
     /// The number of nodes, from 1 to 1,000,000.
     pub fn len(&self) -> u32
         ensures len { result ≡ length self.now.nodes }
@@ -57,6 +65,14 @@ impl SfList {
         ensures { result ≡ node_at self.now.nodes n }
     {
         self.nodes[n as usize]
+    }
+
+    /// All nodes.
+    pub(crate) fn nodes(&self) -> &[SfNode]
+        ensures nodes { result.now ≡ self.now.nodes }
+        ensures list { IsSfList self.now }
+    {
+        self.nodes.as_slice()
     }
 
     /// The number of the root.

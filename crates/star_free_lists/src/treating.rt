@@ -1,5 +1,6 @@
 //! The steps of the construction that give each of some elements a node.
-ghost use Rattle.std.specs.Prelude.{◌≡◌, ◌<◌, ℕ, [], length, slice_index, slice_index_or, vec_items, map, replicate, Some, None, IfOk, All};
+ghost use Rattle.std.specs.Prelude.{◌≡◌, ◌<◌, ℕ, [], length, slice_index, slice_index_or};
+ghost use Rattle.std.specs.Prelude.{vec_items, map, replicate, Some, None, IfOk, All};
 ghost use Rattle.star_free_theory.specs.Construction.{take, each, join_all};
 ghost use Rattle.star_free_theory.specs.declared.nodes.SfNode.TheVariants as node;
 ghost use Rattle.star_free_lists.specs.Building.{AnswersTable, CanJoin};
@@ -57,11 +58,12 @@ pub(crate) fn join_groups(
     groups: &[Vec<(u32, u32)>],
     elements: &[u32],
 ) -> Result<Vec<u32>, SfFault>
-    requires { CanJoin (length first.now) (length second.now) (length starts.now) (map vec_items groups.now) elements.now }
+    requires { CanJoin (length first.now) (length second.now) (length starts.now)
+        (map vec_items groups.now) elements.now }
     ensures table { AnswersTable (λ v. v.items)
         (each (λ ys u. join_all (Some most) (slice_index first.now) (slice_index second.now)
-        (slice_index_or starts.now u None) (slice_index_or (map vec_items groups.now) u []) ys) elements.now
-        (λ p. 0) list.old) list.new result }
+        (slice_index_or starts.now u None) (slice_index_or (map vec_items groups.now) u []) ys)
+        elements.now (λ p. 0) list.old) list.new result }
     ensures long { IfOk result (λ v. length v.items ≡ length starts.now) }
 {
     let mut table = vec![in alloc; 0; starts.len()]?;
@@ -108,11 +110,11 @@ pub(crate) fn finish(
     choice: &Choice,
     nodes: &Nodes<'_>,
 ) -> Result<Vec<u32>, SfFault>
-    requires { CanFinish product.now.table.side elements.now choice.now.submonoid.items choice.now.divisor.items
-        nodes.now.first.now nodes.now.letters.now nodes.now.second.now }
+    requires { CanFinish product.now.table.side elements.now choice.now.submonoid.items
+        choice.now.divisor.items nodes.now.first.now nodes.now.letters.now nodes.now.second.now }
     ensures table { AnswersTable (λ v. v.items) (finished (Some most) product.now elements.now
-        choice.now.submonoid.items choice.now.divisor.items nodes.now.first.now nodes.now.letters.now
-        nodes.now.second.now list.old) list.new result }
+        choice.now.submonoid.items choice.now.divisor.items nodes.now.first.now
+        nodes.now.letters.now nodes.now.second.now list.old) list.new result }
     ensures long { IfOk result (λ v. length v.items ≡ product.now.table.side) }
 {
     let submonoid = choice.submonoid.as_slice();

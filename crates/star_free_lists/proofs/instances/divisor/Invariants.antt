@@ -7,4 +7,5 @@ use Rattle.star_free_lists.proofs.instances.divisor.Given as goal
 abbrev pub invariant-loop-element : goal.invariant-loop-element
 invariant-loop-element l =
     (length l.marks.items ≡ l.product.table.side)
-    × ((x : ℕ) → is_marked l.marks.items x ≡ has (l.m ∷ map (middle l.product l.m) (take l.element-index l.elements)) x)
+    × ((x : ℕ) → is_marked l.marks.items x ≡ has (l.m ∷ map (middle l.product l.m)
+    (take l.element-index l.elements)) x)

@@ -16,4 +16,6 @@ loop-element-preserved c =
     let f : c.factor.result ≡ slice_index p.factors z = c.factor.ensures.factor in
     let inside : z < p.table.side = grind (arith, common_steps) in
     rw (take_more els i 0 c.loop-element-test.true, j, f)
-    (local_more p m (take i els) c.loop-element.factors.items z inside (subst (λ (b : ℕ). b < p.table.side) j c.times.ensures.within) (subst (λ (b : ℕ). b < p.table.side) f c.factor.ensures.within) c.loop-element.invariant)
+    (local_more p m (take i els) c.loop-element.factors.items z inside
+    (subst (λ (b : ℕ). b < p.table.side) j c.times.ensures.within)
+    (subst (λ (b : ℕ). b < p.table.side) f c.factor.ensures.within) c.loop-element.invariant)

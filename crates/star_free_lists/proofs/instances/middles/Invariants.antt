@@ -4,4 +4,5 @@ use Rattle.star_free_lists.proofs.instances.middles.Given as goal
 
 abbrev pub invariant-loop-x : goal.invariant-loop-x
 invariant-loop-x l =
-    (length l.middles.items ≡ l.x) × ((y : ℕ) → y < l.x → slice_index l.middles.items y ≡ middle l.product l.m y)
+    (length l.middles.items ≡ l.x) × ((y : ℕ) → y < l.x → slice_index l.middles.items y
+    ≡ middle l.product l.m y)

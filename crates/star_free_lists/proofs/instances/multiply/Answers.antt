@@ -2,11 +2,19 @@ use Rattle.std.proofs.Common.{◌≡◌, ◌∙◌, ℕ, List, get_or, take, sym
 use Rattle.std.proofs.lemmas.List.{take_more, take_all}
 use Rattle.star_free_theory.specs.Instance.{Among}
 use Rattle.star_free_lists.specs.Instances.{GoesOn, times}
-use Rattle.star_free_lists.proofs.Tables.{noted_long, noted_search, noted_goes, goes_none, among_at, append_among}
+use Rattle.star_free_lists.proofs.Tables.{noted_long, noted_search, noted_goes, goes_none, among_at}
+use Rattle.star_free_lists.proofs.Tables.{append_among}
 use Rattle.star_free_lists.proofs.instances.multiply.Goals as goal
 
 pub loop-letter-init : goal.loop-letter-init
-loop-letter-init c = (c.requires.long, λ one h i. (h, goes_none c.args.product.now c.args.images.now c.args.element c.args.found.now.items))
+loop-letter-init c = (
+  c.requires.long,
+  λ one h i. (
+    h,
+    goes_none c.args.product.now c.args.images.now
+        c.args.element c.args.found.now.items,
+  ),
+)
 
 pub loop-letter-preserved : goal.loop-letter-preserved
 loop-letter-preserved c =
@@ -23,13 +31,18 @@ loop-letter-preserved c =
     let is : y ≡ times p (slice_index images a) x = c.times-next.ensures.times in
     let l = c.times-next.ensures.within in
     let n = c.in_ok-note.ensures in (
-      noted_long p 0 ls images x a i y is old found marks c.note.new.found.items c.note.new.marks.items n ∙ c.loop-letter.invariant.0,
+      noted_long p 0 ls images x a i y is old found marks c.note.new.found.items
+          c.note.new.marks.items n ∙ c.loop-letter.invariant.0,
       λ one h j.
           let r = c.loop-letter.invariant.1 one h j in
-          let k : Among found x = subst (λ (zs : List ℕ). Among zs x) (sym r.1.keeps.1) (append_among old r.1.keeps.0 x j) in (
-            noted_search p one ls images x a i y is old found marks c.note.new.found.items c.note.new.marks.items n l k (among_at ls i c.loop-letter-test.true) r.0,
-            subst (λ (zs : List ℕ). GoesOn p zs images x old c.note.new.found.items) (sym (take_more ls i 0 c.loop-letter-test.true))
-                (noted_goes p one ls images x a i y is old found marks c.note.new.found.items c.note.new.marks.items n (take i ls) l r.0 r.1),
+          let k : Among found x = subst (λ (zs : List ℕ). Among zs x) (sym r.1.keeps.1)
+          (append_among old r.1.keeps.0 x j) in (
+            noted_search p one ls images x a i y is old found marks c.note.new.found.items
+                c.note.new.marks.items n l k (among_at ls i c.loop-letter-test.true) r.0,
+            subst (λ (zs : List ℕ). GoesOn p zs images x old c.note.new.found.items)
+                (sym (take_more ls i 0 c.loop-letter-test.true))
+                (noted_goes p one ls images x a i y is old found marks c.note.new.found.items
+                c.note.new.marks.items n (take i ls) l r.0 r.1),
           ),
     )
 
@@ -37,6 +50,10 @@ pub returns : goal.returns
 returns c = record {
   long = c.loop-letter.invariant.0;
   search = λ one h j.
-      let r = c.loop-letter.invariant.1 one h j in
-      (r.0, subst (λ (zs : List ℕ). GoesOn c.args.product.now zs c.args.images.now c.args.element c.args.found.now.items c.loop-letter.found.items) (take_all c.loop-letter.letter-index c.args.letters.now c.loop-letter-test.false) r.1);
+      let r = c.loop-letter.invariant.1 one h j in (
+        r.0,
+        subst (λ (zs : List ℕ). GoesOn c.args.product.now zs c.args.images.now c.args.element
+            c.args.found.now.items c.loop-letter.found.items) (take_all c.loop-letter.letter-index
+            c.args.letters.now c.loop-letter-test.false) r.1,
+      );
 }

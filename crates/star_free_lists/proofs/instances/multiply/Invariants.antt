@@ -9,4 +9,5 @@ invariant-loop-letter l =
     × ((one : ℕ) → IsSearch l.product one l.letters l.images l.fn.found.items l.fn.marks.items
     → Among l.fn.found.items l.element
     → IsSearch l.product one l.letters l.images l.found.items l.marks.items
-    × GoesOn l.product (take l.letter-index l.letters) l.images l.element l.fn.found.items l.found.items)
+    × GoesOn l.product (take l.letter-index l.letters) l.images l.element l.fn.found.items
+    l.found.items)

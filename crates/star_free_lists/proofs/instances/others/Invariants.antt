@@ -3,4 +3,5 @@ use Rattle.star_free_theory.specs.Construction.{without}
 use Rattle.star_free_lists.proofs.instances.others.Given as goal
 
 abbrev pub invariant-loop-letter : goal.invariant-loop-letter
-invariant-loop-letter l = l.others.items ++ without l.chosen (drop l.letter-index l.letters) ≡ without l.chosen l.letters
+invariant-loop-letter l = l.others.items ++ without l.chosen (drop l.letter-index l.letters)
+    ≡ without l.chosen l.letters

@@ -7,4 +7,5 @@ use Rattle.star_free_lists.proofs.treating.behind.Given as goal
 abbrev pub invariant-loop-letter : goal.invariant-loop-letter
 invariant-loop-letter l =
     (length l.table.items ≡ length l.nodes)
-    × IsSoFar (λ ys t. take (Some l.most) ys (node.Cat l.before (slice_index l.nodes t))) l.letters l.letter-index l.fn.list l.list l.table.items
+    × IsSoFar (λ ys t. take (Some l.most) ys (node.Cat l.before (slice_index l.nodes t))) l.letters
+    l.letter-index l.fn.list l.list l.table.items

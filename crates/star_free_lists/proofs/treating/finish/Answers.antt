@@ -1,12 +1,16 @@
-use Rattle.std.proofs.Common.{Vec, Global, ◌≡◌, ◌∙◌, ℕ, List, Some, None, [], Option, length, slice_index, slice_index_or, map, vec_items, replicate, sym, ap, subst, arith}
+use Rattle.std.proofs.Common.{Vec, Global, ◌≡◌, ◌∙◌, ℕ, List, Some, None, [], Option, length}
+use Rattle.std.proofs.Common.{slice_index, slice_index_or, map, vec_items, replicate, sym, ap}
+use Rattle.std.proofs.Common.{subst, arith}
 use Rattle.std.proofs.lemmas.List.{length-replicate}
 use Rattle.star_free_theory.specs.declared.nodes.SfNode.{SfNode}
-use Rattle.star_free_theory.specs.Construction.{each, join_all, ends, pairs, bind, when, has, Outcome, keep, is_some_pair}
+use Rattle.star_free_theory.specs.Construction.{each, join_all, ends, pairs, bind, when, has}
+use Rattle.star_free_theory.specs.Construction.{Outcome, keep, is_some_pair}
 use Rattle.star_free_lists.specs.Instances.{AreGroups, times}
 use Rattle.star_free_lists.specs.Finishing.{finished, AreStarts}
-use Rattle.star_free_lists.proofs.Finishing.{can_join, ends_are, ends_in, us_within, first_each, second_each}
+use Rattle.star_free_lists.proofs.Finishing.{can_join, ends_are, ends_in, us_within, first_each}
+use Rattle.star_free_lists.proofs.Finishing.{second_each}
 use Rattle.star_free_lists.proofs.Choosing.{all_among, among_all}
-use Rattle.star_free_lists.proofs.Steps.{stops_tables, stops_table_as, bind_done}
+use Rattle.star_free_lists.proofs.Steps.{stops_table, stops_table_as, bind_done}
 use Rattle.star_free_lists.proofs.treating.finish.Goals as goal
 
 pub join_groups-requires : goal.join_groups-requires
@@ -18,15 +22,28 @@ join_groups-requires c =
     let e = c.args.nodes.now.first.now in
     let b = c.args.nodes.now.letters.now in
     let f = c.args.nodes.now.second.now in
-    let g1 : AreGroups p D S (map vec_items c.in_ok-last.last.items) = subst (λ (zs : List ℕ). AreGroups p zs S (map vec_items c.in_ok-last.last.items)) c.as_slice.ensures.value (subst (λ (zs : List ℕ). AreGroups p c.as_slice.result.now zs (map vec_items c.in_ok-last.last.items)) c.as_slice-submonoid.ensures.value c.in_ok-last.ensures) in
-    let en : c.in_ok-ends.ends.items ≡ ends (times p) D S els = c.in_ok-ends.ensures ∙ ap (λ gs. keep (λ u. is_some_pair (slice_index_or (map vec_items gs) u [])) els) c.as_slice-2.ensures.value ∙ ends_are p D S (map vec_items c.in_ok-last.last.items) els g1 c.requires.elements_within in
-    let nn : c.in_ok-none.none.items ≡ replicate p.table.side None = c.in_ok-none.ensures ∙ ap (λ (n : ℕ). replicate n None) c.side.ensures.side in
-    let ln : length c.in_ok-none.none.items ≡ p.table.side = ap (λ (zs : List (Option ℕ)). length zs) nn ∙ length-replicate p.table.side None in
+    let g1 : AreGroups p D S (map vec_items c.in_ok-last.last.items) =
+    subst (λ (zs : List ℕ). AreGroups p zs S (map vec_items c.in_ok-last.last.items))
+    c.as_slice.ensures.value (subst (λ (zs : List ℕ). AreGroups p c.as_slice.result.now zs
+    (map vec_items c.in_ok-last.last.items)) c.as_slice-submonoid.ensures.value
+    c.in_ok-last.ensures) in
+    let en : c.in_ok-ends.ends.items ≡ ends (times p) D S els = c.in_ok-ends.ensures
+    ∙ ap (λ gs. keep (λ u. is_some_pair (slice_index_or (map vec_items gs) u [])) els)
+    c.as_slice-2.ensures.value ∙ ends_are p D S (map vec_items c.in_ok-last.last.items) els g1
+    c.requires.elements_within in
+    let nn : c.in_ok-none.none.items ≡ replicate p.table.side None = c.in_ok-none.ensures
+    ∙ ap (λ (n : ℕ). replicate n None) c.side.ensures.side in
+    let ln : length c.in_ok-none.none.items ≡ p.table.side = ap (λ (zs : List (Option ℕ)). length
+    zs) nn ∙ length-replicate p.table.side None in
     rw (c.as_slice-3.ensures.value, c.as_slice-4.ensures.value, c.as_slice-5.ensures.value, ln, en)
-    (can_join p D S (length f) (length b) (map vec_items c.in_ok-last.last.items) (ends (times p) D S els) g1
-    (among_all p.table.side (ends (times p) D S els) (λ x i. all_among p.table.side els x c.requires.elements_within (ends_in p D S els x i)))
-    (λ x i. let l = all_among p.table.side D x c.requires.div_within i in let m = c.requires.second_long in omega arith)
-    (λ x i. let l = all_among p.table.side S x c.requires.sub_within i in let m = c.requires.letters_long in omega arith))
+    (can_join p D S (length f) (length b) (map vec_items c.in_ok-last.last.items)
+    (ends (times p) D S els) g1
+    (among_all p.table.side (ends (times p) D S els) (λ x i. all_among p.table.side els x
+    c.requires.elements_within (ends_in p D S els x i)))
+    (λ x i. let l = all_among p.table.side D x c.requires.div_within i in let m =
+    c.requires.second_long in omega arith)
+    (λ x i. let l = all_among p.table.side S x c.requires.sub_within i in let m =
+    c.requires.letters_long in omega arith))
 
 pub groups-requires-2-clause-second : goal.groups-requires-2-clause-second
 groups-requires-2-clause-second c =
@@ -37,11 +54,21 @@ groups-requires-2-clause-second c =
     let e = c.args.nodes.now.first.now in
     let b = c.args.nodes.now.letters.now in
     let f = c.args.nodes.now.second.now in
-    let g1 : AreGroups p D S (map vec_items c.in_ok-last.last.items) = subst (λ (zs : List ℕ). AreGroups p zs S (map vec_items c.in_ok-last.last.items)) c.as_slice.ensures.value (subst (λ (zs : List ℕ). AreGroups p c.as_slice.result.now zs (map vec_items c.in_ok-last.last.items)) c.as_slice-submonoid.ensures.value c.in_ok-last.ensures) in
-    let en : c.in_ok-ends.ends.items ≡ ends (times p) D S els = c.in_ok-ends.ensures ∙ ap (λ gs. keep (λ u. is_some_pair (slice_index_or (map vec_items gs) u [])) els) c.as_slice-2.ensures.value ∙ ends_are p D S (map vec_items c.in_ok-last.last.items) els g1 c.requires.elements_within in
-    let nn : c.in_ok-none.none.items ≡ replicate p.table.side None = c.in_ok-none.ensures ∙ ap (λ (n : ℕ). replicate n None) c.side.ensures.side in
-    let ln : length c.in_ok-none.none.items ≡ p.table.side = ap (λ (zs : List (Option ℕ)). length zs) nn ∙ length-replicate p.table.side None in
-    rw (c.as_slice-6.ensures.value, en) (among_all p.table.side (ends (times p) D S els) (λ x i. all_among p.table.side els x c.requires.elements_within (ends_in p D S els x i)))
+    let g1 : AreGroups p D S (map vec_items c.in_ok-last.last.items) =
+    subst (λ (zs : List ℕ). AreGroups p zs S (map vec_items c.in_ok-last.last.items))
+    c.as_slice.ensures.value (subst (λ (zs : List ℕ). AreGroups p c.as_slice.result.now zs
+    (map vec_items c.in_ok-last.last.items)) c.as_slice-submonoid.ensures.value
+    c.in_ok-last.ensures) in
+    let en : c.in_ok-ends.ends.items ≡ ends (times p) D S els = c.in_ok-ends.ensures
+    ∙ ap (λ gs. keep (λ u. is_some_pair (slice_index_or (map vec_items gs) u [])) els)
+    c.as_slice-2.ensures.value ∙ ends_are p D S (map vec_items c.in_ok-last.last.items) els g1
+    c.requires.elements_within in
+    let nn : c.in_ok-none.none.items ≡ replicate p.table.side None = c.in_ok-none.ensures
+    ∙ ap (λ (n : ℕ). replicate n None) c.side.ensures.side in
+    let ln : length c.in_ok-none.none.items ≡ p.table.side = ap (λ (zs : List (Option ℕ)). length
+    zs) nn ∙ length-replicate p.table.side None in
+    rw (c.as_slice-6.ensures.value, en) (among_all p.table.side (ends (times p) D S els)
+    (λ x i. all_among p.table.side els x c.requires.elements_within (ends_in p D S els x i)))
 
 pub returns-in_err-behind-clause-table : goal.returns-in_err-behind-clause-table
 returns-in_err-behind-clause-table c =
@@ -52,17 +79,41 @@ returns-in_err-behind-clause-table c =
     let e = c.args.nodes.now.first.now in
     let b = c.args.nodes.now.letters.now in
     let f = c.args.nodes.now.second.now in
-    let g1 : AreGroups p D S (map vec_items c.in_ok-last.last.items) = subst (λ (zs : List ℕ). AreGroups p zs S (map vec_items c.in_ok-last.last.items)) c.as_slice.ensures.value (subst (λ (zs : List ℕ). AreGroups p c.as_slice.result.now zs (map vec_items c.in_ok-last.last.items)) c.as_slice-submonoid.ensures.value c.in_ok-last.ensures) in
-    let en : c.in_ok-ends.ends.items ≡ ends (times p) D S els = c.in_ok-ends.ensures ∙ ap (λ gs. keep (λ u. is_some_pair (slice_index_or (map vec_items gs) u [])) els) c.as_slice-2.ensures.value ∙ ends_are p D S (map vec_items c.in_ok-last.last.items) els g1 c.requires.elements_within in
-    let nn : c.in_ok-none.none.items ≡ replicate p.table.side None = c.in_ok-none.ensures ∙ ap (λ (n : ℕ). replicate n None) c.side.ensures.side in
-    let ln : length c.in_ok-none.none.items ≡ p.table.side = ap (λ (zs : List (Option ℕ)). length zs) nn ∙ length-replicate p.table.side None in
+    let g1 : AreGroups p D S (map vec_items c.in_ok-last.last.items) =
+    subst (λ (zs : List ℕ). AreGroups p zs S (map vec_items c.in_ok-last.last.items))
+    c.as_slice.ensures.value (subst (λ (zs : List ℕ). AreGroups p c.as_slice.result.now zs
+    (map vec_items c.in_ok-last.last.items)) c.as_slice-submonoid.ensures.value
+    c.in_ok-last.ensures) in
+    let en : c.in_ok-ends.ends.items ≡ ends (times p) D S els = c.in_ok-ends.ensures
+    ∙ ap (λ gs. keep (λ u. is_some_pair (slice_index_or (map vec_items gs) u [])) els)
+    c.as_slice-2.ensures.value ∙ ends_are p D S (map vec_items c.in_ok-last.last.items) els g1
+    c.requires.elements_within in
+    let nn : c.in_ok-none.none.items ≡ replicate p.table.side None = c.in_ok-none.ensures
+    ∙ ap (λ (n : ℕ). replicate n None) c.side.ensures.side in
+    let ln : length c.in_ok-none.none.items ≡ p.table.side = ap (λ (zs : List (Option ℕ)). length
+    zs) nn ∙ length-replicate p.table.side None in
     let m = Some c.args.most in
     let xs = c.args.list.now in
-    let code : Outcome (List SfNode × (ℕ → ℕ)) = each (λ ys u. join_all m (slice_index f) (slice_index b) (slice_index_or c.as_slice-3.result.now u None) (slice_index_or (map vec_items c.as_slice-4.result.now) u []) ys) c.as_slice-5.result.now (λ x. 0) xs in
-    let first : Outcome (List SfNode × (ℕ → ℕ)) = each (λ ys u. join_all m (slice_index f) (slice_index b) None (pairs (times p) D S u) ys) (ends (times p) D S els) (λ x. 0) xs in
-    let last : List SfNode × (ℕ → ℕ) → Outcome (List SfNode × (ℕ → ℕ)) = λ g. each (λ ys u. join_all m (slice_index e) g.1 (when (has S u) (slice_index e u)) (pairs (times p) S (ends (times p) D S els) u) ys) els (λ x. 0) g.0 in
-    let same : code ≡ first = rw (c.as_slice-3.ensures.value, c.as_slice-4.ensures.value, c.as_slice-5.ensures.value, en) (first_each m p els S D e b f c.requires (map vec_items c.in_ok-last.last.items) c.in_ok-none.none.items g1 nn xs) in
-    stops_tables (λ v. v.items) (λ (v : Vec ℕ Global). v.items) code last (finished m p els S D e b f xs) c.join_groups.new.list _ c.in_err-behind.field-0.0 _ (ap (λ (o : Outcome (List SfNode × (ℕ → ℕ))). bind o last) (sym same)) c.in_err-behind.ensures.table c.from_residual-in_err-behind.ensures.1
+    let code : Outcome (List SfNode × (ℕ → ℕ)) = each (λ ys u. join_all m (slice_index f)
+    (slice_index b) (slice_index_or c.as_slice-3.result.now u None)
+    (slice_index_or (map vec_items c.as_slice-4.result.now) u []) ys) c.as_slice-5.result.now
+    (λ x. 0) xs in
+    let first : Outcome (List SfNode × (ℕ → ℕ)) = each (λ ys u. join_all m (slice_index f)
+    (slice_index b) None (pairs (times p) D S u) ys) (ends (times p) D S els) (λ x. 0) xs in
+    let last : List SfNode × (ℕ → ℕ) → Outcome (List SfNode × (ℕ → ℕ)) =
+    λ g. each (λ ys u. join_all m (slice_index e) g.1 (when (has S u) (slice_index e u))
+    (pairs (times p) S (ends (times p) D S els) u) ys) els (λ x. 0) g.0 in
+    let same : code ≡ first = rw (
+      c.as_slice-3.ensures.value,
+      c.as_slice-4.ensures.value,
+      c.as_slice-5.ensures.value,
+      en,
+    ) (first_each m p els S D e b f c.requires
+    (map vec_items c.in_ok-last.last.items) c.in_ok-none.none.items g1 nn xs) in
+    stops_table (λ v. v.items) code last (finished m p els S D e b
+    f xs) _ c.in_err-behind.field-0.0 _
+    (ap (λ (o : Outcome (List SfNode × (ℕ → ℕ))). bind o last) (sym same))
+    c.in_err-behind.ensures.table c.from_residual-in_err-behind.ensures.1
 
 pub join_groups-requires-2 : goal.join_groups-requires-2
 join_groups-requires-2 c =
@@ -73,16 +124,41 @@ join_groups-requires-2 c =
     let e = c.args.nodes.now.first.now in
     let b = c.args.nodes.now.letters.now in
     let f = c.args.nodes.now.second.now in
-    let g1 : AreGroups p D S (map vec_items c.in_ok-last.last.items) = subst (λ (zs : List ℕ). AreGroups p zs S (map vec_items c.in_ok-last.last.items)) c.as_slice.ensures.value (subst (λ (zs : List ℕ). AreGroups p c.as_slice.result.now zs (map vec_items c.in_ok-last.last.items)) c.as_slice-submonoid.ensures.value c.in_ok-last.ensures) in
-    let en : c.in_ok-ends.ends.items ≡ ends (times p) D S els = c.in_ok-ends.ensures ∙ ap (λ gs. keep (λ u. is_some_pair (slice_index_or (map vec_items gs) u [])) els) c.as_slice-2.ensures.value ∙ ends_are p D S (map vec_items c.in_ok-last.last.items) els g1 c.requires.elements_within in
-    let nn : c.in_ok-none.none.items ≡ replicate p.table.side None = c.in_ok-none.ensures ∙ ap (λ (n : ℕ). replicate n None) c.side.ensures.side in
-    let ln : length c.in_ok-none.none.items ≡ p.table.side = ap (λ (zs : List (Option ℕ)). length zs) nn ∙ length-replicate p.table.side None in
-    let lb : length c.in_ok-behind.behind.items ≡ p.table.side = c.in_ok-behind.ensures.long ∙ ap (λ (zs : List (Option ℕ)). length zs) c.as_slice-3.ensures.value ∙ ln in
-    let g2 : AreGroups p S (ends (times p) D S els) (map vec_items c.in_ok-whole.whole.items) = subst (λ (zs : List ℕ). AreGroups p S zs (map vec_items c.in_ok-whole.whole.items)) (c.as_slice-6.ensures.value ∙ en) (subst (λ (zs : List ℕ). AreGroups p zs c.as_slice-6.result.now (map vec_items c.in_ok-whole.whole.items)) c.as_slice-submonoid.ensures.value c.in_ok-whole.ensures) in
-    let st : AreStarts S e c.in_ok-starts.starts.items = subst (λ (zs : List ℕ). AreStarts zs e c.in_ok-starts.starts.items) c.as_slice-submonoid.ensures.value c.in_ok-starts.ensures in
-    rw (c.as_slice-7.ensures.value, c.as_slice-8.ensures.value, c.as_slice-9.ensures.value, st.long, lb, c.requires.first_long)
-    (can_join p S (ends (times p) D S els) p.table.side p.table.side (map vec_items c.in_ok-whole.whole.items) els g2 c.requires.elements_within
-    (λ x i. all_among p.table.side S x c.requires.sub_within i) (λ x i. us_within (Some c.args.most) p els S D e b f c.requires x i))
+    let g1 : AreGroups p D S (map vec_items c.in_ok-last.last.items) =
+    subst (λ (zs : List ℕ). AreGroups p zs S (map vec_items c.in_ok-last.last.items))
+    c.as_slice.ensures.value (subst (λ (zs : List ℕ). AreGroups p c.as_slice.result.now zs
+    (map vec_items c.in_ok-last.last.items)) c.as_slice-submonoid.ensures.value
+    c.in_ok-last.ensures) in
+    let en : c.in_ok-ends.ends.items ≡ ends (times p) D S els = c.in_ok-ends.ensures
+    ∙ ap (λ gs. keep (λ u. is_some_pair (slice_index_or (map vec_items gs) u [])) els)
+    c.as_slice-2.ensures.value ∙ ends_are p D S (map vec_items c.in_ok-last.last.items) els g1
+    c.requires.elements_within in
+    let nn : c.in_ok-none.none.items ≡ replicate p.table.side None = c.in_ok-none.ensures
+    ∙ ap (λ (n : ℕ). replicate n None) c.side.ensures.side in
+    let ln : length c.in_ok-none.none.items ≡ p.table.side = ap (λ (zs : List (Option ℕ)). length
+    zs) nn ∙ length-replicate p.table.side None in
+    let lb : length c.in_ok-behind.behind.items ≡ p.table.side = c.in_ok-behind.ensures.long
+    ∙ ap (λ (zs : List (Option ℕ)). length zs) c.as_slice-3.ensures.value ∙ ln in
+    let g2 : AreGroups p S (ends (times p) D S els) (map vec_items c.in_ok-whole.whole.items) =
+    subst (λ (zs : List ℕ). AreGroups p S zs (map vec_items c.in_ok-whole.whole.items))
+    (c.as_slice-6.ensures.value ∙ en)
+    (subst (λ (zs : List ℕ). AreGroups p zs c.as_slice-6.result.now
+    (map vec_items c.in_ok-whole.whole.items)) c.as_slice-submonoid.ensures.value
+    c.in_ok-whole.ensures) in
+    let st : AreStarts S e c.in_ok-starts.starts.items = subst (λ (zs : List ℕ). AreStarts zs e
+    c.in_ok-starts.starts.items) c.as_slice-submonoid.ensures.value c.in_ok-starts.ensures in
+    rw (
+      c.as_slice-7.ensures.value,
+      c.as_slice-8.ensures.value,
+      c.as_slice-9.ensures.value,
+      st.long,
+      lb,
+      c.requires.first_long,
+    )
+    (can_join p S (ends (times p) D S els) p.table.side p.table.side
+    (map vec_items c.in_ok-whole.whole.items) els g2 c.requires.elements_within
+    (λ x i. all_among p.table.side S x c.requires.sub_within i) (λ x i. us_within (Some c.args.most)
+    p els S D e b f c.requires x i))
 
 pub returns-in_err-table-clause-table : goal.returns-in_err-table-clause-table
 returns-in_err-table-clause-table c =
@@ -93,25 +169,61 @@ returns-in_err-table-clause-table c =
     let e = c.args.nodes.now.first.now in
     let b = c.args.nodes.now.letters.now in
     let f = c.args.nodes.now.second.now in
-    let g1 : AreGroups p D S (map vec_items c.in_ok-last.last.items) = subst (λ (zs : List ℕ). AreGroups p zs S (map vec_items c.in_ok-last.last.items)) c.as_slice.ensures.value (subst (λ (zs : List ℕ). AreGroups p c.as_slice.result.now zs (map vec_items c.in_ok-last.last.items)) c.as_slice-submonoid.ensures.value c.in_ok-last.ensures) in
-    let en : c.in_ok-ends.ends.items ≡ ends (times p) D S els = c.in_ok-ends.ensures ∙ ap (λ gs. keep (λ u. is_some_pair (slice_index_or (map vec_items gs) u [])) els) c.as_slice-2.ensures.value ∙ ends_are p D S (map vec_items c.in_ok-last.last.items) els g1 c.requires.elements_within in
-    let nn : c.in_ok-none.none.items ≡ replicate p.table.side None = c.in_ok-none.ensures ∙ ap (λ (n : ℕ). replicate n None) c.side.ensures.side in
-    let ln : length c.in_ok-none.none.items ≡ p.table.side = ap (λ (zs : List (Option ℕ)). length zs) nn ∙ length-replicate p.table.side None in
+    let g1 : AreGroups p D S (map vec_items c.in_ok-last.last.items) =
+    subst (λ (zs : List ℕ). AreGroups p zs S (map vec_items c.in_ok-last.last.items))
+    c.as_slice.ensures.value (subst (λ (zs : List ℕ). AreGroups p c.as_slice.result.now zs
+    (map vec_items c.in_ok-last.last.items)) c.as_slice-submonoid.ensures.value
+    c.in_ok-last.ensures) in
+    let en : c.in_ok-ends.ends.items ≡ ends (times p) D S els = c.in_ok-ends.ensures
+    ∙ ap (λ gs. keep (λ u. is_some_pair (slice_index_or (map vec_items gs) u [])) els)
+    c.as_slice-2.ensures.value ∙ ends_are p D S (map vec_items c.in_ok-last.last.items) els g1
+    c.requires.elements_within in
+    let nn : c.in_ok-none.none.items ≡ replicate p.table.side None = c.in_ok-none.ensures
+    ∙ ap (λ (n : ℕ). replicate n None) c.side.ensures.side in
+    let ln : length c.in_ok-none.none.items ≡ p.table.side = ap (λ (zs : List (Option ℕ)). length
+    zs) nn ∙ length-replicate p.table.side None in
     let m = Some c.args.most in
     let xs = c.args.list.now in
-    let code : Outcome (List SfNode × (ℕ → ℕ)) = each (λ ys u. join_all m (slice_index f) (slice_index b) (slice_index_or c.as_slice-3.result.now u None) (slice_index_or (map vec_items c.as_slice-4.result.now) u []) ys) c.as_slice-5.result.now (λ x. 0) xs in
-    let first : Outcome (List SfNode × (ℕ → ℕ)) = each (λ ys u. join_all m (slice_index f) (slice_index b) None (pairs (times p) D S u) ys) (ends (times p) D S els) (λ x. 0) xs in
-    let last : List SfNode × (ℕ → ℕ) → Outcome (List SfNode × (ℕ → ℕ)) = λ g. each (λ ys u. join_all m (slice_index e) g.1 (when (has S u) (slice_index e u)) (pairs (times p) S (ends (times p) D S els) u) ys) els (λ x. 0) g.0 in
-    let same : code ≡ first = rw (c.as_slice-3.ensures.value, c.as_slice-4.ensures.value, c.as_slice-5.ensures.value, en) (first_each m p els S D e b f c.requires (map vec_items c.in_ok-last.last.items) c.in_ok-none.none.items g1 nn xs) in
+    let code : Outcome (List SfNode × (ℕ → ℕ)) = each (λ ys u. join_all m (slice_index f)
+    (slice_index b) (slice_index_or c.as_slice-3.result.now u None)
+    (slice_index_or (map vec_items c.as_slice-4.result.now) u []) ys) c.as_slice-5.result.now
+    (λ x. 0) xs in
+    let first : Outcome (List SfNode × (ℕ → ℕ)) = each (λ ys u. join_all m (slice_index f)
+    (slice_index b) None (pairs (times p) D S u) ys) (ends (times p) D S els) (λ x. 0) xs in
+    let last : List SfNode × (ℕ → ℕ) → Outcome (List SfNode × (ℕ → ℕ)) =
+    λ g. each (λ ys u. join_all m (slice_index e) g.1 (when (has S u) (slice_index e u))
+    (pairs (times p) S (ends (times p) D S els) u) ys) els (λ x. 0) g.0 in
+    let same : code ≡ first = rw (
+      c.as_slice-3.ensures.value,
+      c.as_slice-4.ensures.value,
+      c.as_slice-5.ensures.value,
+      en,
+    ) (first_each m p els S D e b f c.requires
+    (map vec_items c.in_ok-last.last.items) c.in_ok-none.none.items g1 nn xs) in
     let w = c.in_ok-behind.ensures.table in
-    let lb : length c.in_ok-behind.behind.items ≡ p.table.side = c.in_ok-behind.ensures.long ∙ ap (λ (zs : List (Option ℕ)). length zs) c.as_slice-3.ensures.value ∙ ln in
-    let g2 : AreGroups p S (ends (times p) D S els) (map vec_items c.in_ok-whole.whole.items) = subst (λ (zs : List ℕ). AreGroups p S zs (map vec_items c.in_ok-whole.whole.items)) (c.as_slice-6.ensures.value ∙ en) (subst (λ (zs : List ℕ). AreGroups p zs c.as_slice-6.result.now (map vec_items c.in_ok-whole.whole.items)) c.as_slice-submonoid.ensures.value c.in_ok-whole.ensures) in
-    let st : AreStarts S e c.in_ok-starts.starts.items = subst (λ (zs : List ℕ). AreStarts zs e c.in_ok-starts.starts.items) c.as_slice-submonoid.ensures.value c.in_ok-starts.ensures in
+    let lb : length c.in_ok-behind.behind.items ≡ p.table.side = c.in_ok-behind.ensures.long
+    ∙ ap (λ (zs : List (Option ℕ)). length zs) c.as_slice-3.ensures.value ∙ ln in
+    let g2 : AreGroups p S (ends (times p) D S els) (map vec_items c.in_ok-whole.whole.items) =
+    subst (λ (zs : List ℕ). AreGroups p S zs (map vec_items c.in_ok-whole.whole.items))
+    (c.as_slice-6.ensures.value ∙ en)
+    (subst (λ (zs : List ℕ). AreGroups p zs c.as_slice-6.result.now
+    (map vec_items c.in_ok-whole.whole.items)) c.as_slice-submonoid.ensures.value
+    c.in_ok-whole.ensures) in
+    let st : AreStarts S e c.in_ok-starts.starts.items = subst (λ (zs : List ℕ). AreStarts zs e
+    c.in_ok-starts.starts.items) c.as_slice-submonoid.ensures.value c.in_ok-starts.ensures in
     let list = c.join_groups.new.list in
-    let code2 : Outcome (List SfNode × (ℕ → ℕ)) = each (λ ys u. join_all m (slice_index e) (slice_index c.as_slice-7.result.now) (slice_index_or c.as_slice-8.result.now u None) (slice_index_or (map vec_items c.as_slice-9.result.now) u []) ys) els (λ x. 0) list in
-    let same2 : code2 ≡ last (list, w.0) = rw (c.as_slice-7.ensures.value, c.as_slice-8.ensures.value, c.as_slice-9.ensures.value) (second_each m p els S D e b f c.requires (map vec_items c.in_ok-whole.whole.items) c.in_ok-starts.starts.items c.in_ok-behind.behind.items w.0 g2 st w.2 lb list) in
-    let whole : finished m p els S D e b f xs ≡ code2 = ap (λ (o : Outcome (List SfNode × (ℕ → ℕ))). bind o last) (sym same) ∙ bind_done code last (list, w.0) w.1 ∙ sym same2 in
-    stops_table_as (λ v. v.items) (λ (v : Vec ℕ Global). v.items) code2 (finished m p els S D e b f xs) c.join_groups-2.new.list _ c.in_err-table.field-0.0 _ whole c.in_err-table.ensures.table c.from_residual-in_err-table.ensures.1
+    let code2 : Outcome (List SfNode × (ℕ → ℕ)) = each (λ ys u. join_all m (slice_index e)
+    (slice_index c.as_slice-7.result.now) (slice_index_or c.as_slice-8.result.now u None)
+    (slice_index_or (map vec_items c.as_slice-9.result.now) u []) ys) els (λ x. 0) list in
+    let same2 : code2 ≡ last (list, w.0) =
+    rw (c.as_slice-7.ensures.value, c.as_slice-8.ensures.value, c.as_slice-9.ensures.value)
+    (second_each m p els S D e b f c.requires (map vec_items c.in_ok-whole.whole.items)
+    c.in_ok-starts.starts.items c.in_ok-behind.behind.items w.0 g2 st w.2 lb list) in
+    let whole : finished m p els S D e b f xs ≡ code2 = ap (λ (o : Outcome (List SfNode × (ℕ → ℕ))).
+    bind o last) (sym same) ∙ bind_done code last (list, w.0) w.1 ∙ sym same2 in
+    stops_table_as (λ v. v.items) code2 (finished m p els S D e b f
+    xs) _ c.in_err-table.field-0.0 _ whole c.in_err-table.ensures.table
+    c.from_residual-in_err-table.ensures.1
 
 pub returns : goal.returns
 returns c =
@@ -122,26 +234,61 @@ returns c =
     let e = c.args.nodes.now.first.now in
     let b = c.args.nodes.now.letters.now in
     let f = c.args.nodes.now.second.now in
-    let g1 : AreGroups p D S (map vec_items c.in_ok-last.last.items) = subst (λ (zs : List ℕ). AreGroups p zs S (map vec_items c.in_ok-last.last.items)) c.as_slice.ensures.value (subst (λ (zs : List ℕ). AreGroups p c.as_slice.result.now zs (map vec_items c.in_ok-last.last.items)) c.as_slice-submonoid.ensures.value c.in_ok-last.ensures) in
-    let en : c.in_ok-ends.ends.items ≡ ends (times p) D S els = c.in_ok-ends.ensures ∙ ap (λ gs. keep (λ u. is_some_pair (slice_index_or (map vec_items gs) u [])) els) c.as_slice-2.ensures.value ∙ ends_are p D S (map vec_items c.in_ok-last.last.items) els g1 c.requires.elements_within in
-    let nn : c.in_ok-none.none.items ≡ replicate p.table.side None = c.in_ok-none.ensures ∙ ap (λ (n : ℕ). replicate n None) c.side.ensures.side in
-    let ln : length c.in_ok-none.none.items ≡ p.table.side = ap (λ (zs : List (Option ℕ)). length zs) nn ∙ length-replicate p.table.side None in
+    let g1 : AreGroups p D S (map vec_items c.in_ok-last.last.items) =
+    subst (λ (zs : List ℕ). AreGroups p zs S (map vec_items c.in_ok-last.last.items))
+    c.as_slice.ensures.value (subst (λ (zs : List ℕ). AreGroups p c.as_slice.result.now zs
+    (map vec_items c.in_ok-last.last.items)) c.as_slice-submonoid.ensures.value
+    c.in_ok-last.ensures) in
+    let en : c.in_ok-ends.ends.items ≡ ends (times p) D S els = c.in_ok-ends.ensures
+    ∙ ap (λ gs. keep (λ u. is_some_pair (slice_index_or (map vec_items gs) u [])) els)
+    c.as_slice-2.ensures.value ∙ ends_are p D S (map vec_items c.in_ok-last.last.items) els g1
+    c.requires.elements_within in
+    let nn : c.in_ok-none.none.items ≡ replicate p.table.side None = c.in_ok-none.ensures
+    ∙ ap (λ (n : ℕ). replicate n None) c.side.ensures.side in
+    let ln : length c.in_ok-none.none.items ≡ p.table.side = ap (λ (zs : List (Option ℕ)). length
+    zs) nn ∙ length-replicate p.table.side None in
     let m = Some c.args.most in
     let xs = c.args.list.now in
-    let code : Outcome (List SfNode × (ℕ → ℕ)) = each (λ ys u. join_all m (slice_index f) (slice_index b) (slice_index_or c.as_slice-3.result.now u None) (slice_index_or (map vec_items c.as_slice-4.result.now) u []) ys) c.as_slice-5.result.now (λ x. 0) xs in
-    let first : Outcome (List SfNode × (ℕ → ℕ)) = each (λ ys u. join_all m (slice_index f) (slice_index b) None (pairs (times p) D S u) ys) (ends (times p) D S els) (λ x. 0) xs in
-    let last : List SfNode × (ℕ → ℕ) → Outcome (List SfNode × (ℕ → ℕ)) = λ g. each (λ ys u. join_all m (slice_index e) g.1 (when (has S u) (slice_index e u)) (pairs (times p) S (ends (times p) D S els) u) ys) els (λ x. 0) g.0 in
-    let same : code ≡ first = rw (c.as_slice-3.ensures.value, c.as_slice-4.ensures.value, c.as_slice-5.ensures.value, en) (first_each m p els S D e b f c.requires (map vec_items c.in_ok-last.last.items) c.in_ok-none.none.items g1 nn xs) in
+    let code : Outcome (List SfNode × (ℕ → ℕ)) = each (λ ys u. join_all m (slice_index f)
+    (slice_index b) (slice_index_or c.as_slice-3.result.now u None)
+    (slice_index_or (map vec_items c.as_slice-4.result.now) u []) ys) c.as_slice-5.result.now
+    (λ x. 0) xs in
+    let first : Outcome (List SfNode × (ℕ → ℕ)) = each (λ ys u. join_all m (slice_index f)
+    (slice_index b) None (pairs (times p) D S u) ys) (ends (times p) D S els) (λ x. 0) xs in
+    let last : List SfNode × (ℕ → ℕ) → Outcome (List SfNode × (ℕ → ℕ)) =
+    λ g. each (λ ys u. join_all m (slice_index e) g.1 (when (has S u) (slice_index e u))
+    (pairs (times p) S (ends (times p) D S els) u) ys) els (λ x. 0) g.0 in
+    let same : code ≡ first = rw (
+      c.as_slice-3.ensures.value,
+      c.as_slice-4.ensures.value,
+      c.as_slice-5.ensures.value,
+      en,
+    ) (first_each m p els S D e b f c.requires
+    (map vec_items c.in_ok-last.last.items) c.in_ok-none.none.items g1 nn xs) in
     let w = c.in_ok-behind.ensures.table in
-    let lb : length c.in_ok-behind.behind.items ≡ p.table.side = c.in_ok-behind.ensures.long ∙ ap (λ (zs : List (Option ℕ)). length zs) c.as_slice-3.ensures.value ∙ ln in
-    let g2 : AreGroups p S (ends (times p) D S els) (map vec_items c.in_ok-whole.whole.items) = subst (λ (zs : List ℕ). AreGroups p S zs (map vec_items c.in_ok-whole.whole.items)) (c.as_slice-6.ensures.value ∙ en) (subst (λ (zs : List ℕ). AreGroups p zs c.as_slice-6.result.now (map vec_items c.in_ok-whole.whole.items)) c.as_slice-submonoid.ensures.value c.in_ok-whole.ensures) in
-    let st : AreStarts S e c.in_ok-starts.starts.items = subst (λ (zs : List ℕ). AreStarts zs e c.in_ok-starts.starts.items) c.as_slice-submonoid.ensures.value c.in_ok-starts.ensures in
+    let lb : length c.in_ok-behind.behind.items ≡ p.table.side = c.in_ok-behind.ensures.long
+    ∙ ap (λ (zs : List (Option ℕ)). length zs) c.as_slice-3.ensures.value ∙ ln in
+    let g2 : AreGroups p S (ends (times p) D S els) (map vec_items c.in_ok-whole.whole.items) =
+    subst (λ (zs : List ℕ). AreGroups p S zs (map vec_items c.in_ok-whole.whole.items))
+    (c.as_slice-6.ensures.value ∙ en)
+    (subst (λ (zs : List ℕ). AreGroups p zs c.as_slice-6.result.now
+    (map vec_items c.in_ok-whole.whole.items)) c.as_slice-submonoid.ensures.value
+    c.in_ok-whole.ensures) in
+    let st : AreStarts S e c.in_ok-starts.starts.items = subst (λ (zs : List ℕ). AreStarts zs e
+    c.in_ok-starts.starts.items) c.as_slice-submonoid.ensures.value c.in_ok-starts.ensures in
     let list = c.join_groups.new.list in
-    let code2 : Outcome (List SfNode × (ℕ → ℕ)) = each (λ ys u. join_all m (slice_index e) (slice_index c.as_slice-7.result.now) (slice_index_or c.as_slice-8.result.now u None) (slice_index_or (map vec_items c.as_slice-9.result.now) u []) ys) els (λ x. 0) list in
-    let same2 : code2 ≡ last (list, w.0) = rw (c.as_slice-7.ensures.value, c.as_slice-8.ensures.value, c.as_slice-9.ensures.value) (second_each m p els S D e b f c.requires (map vec_items c.in_ok-whole.whole.items) c.in_ok-starts.starts.items c.in_ok-behind.behind.items w.0 g2 st w.2 lb list) in
-    let whole : finished m p els S D e b f xs ≡ code2 = ap (λ (o : Outcome (List SfNode × (ℕ → ℕ))). bind o last) (sym same) ∙ bind_done code last (list, w.0) w.1 ∙ sym same2 in
+    let code2 : Outcome (List SfNode × (ℕ → ℕ)) = each (λ ys u. join_all m (slice_index e)
+    (slice_index c.as_slice-7.result.now) (slice_index_or c.as_slice-8.result.now u None)
+    (slice_index_or (map vec_items c.as_slice-9.result.now) u []) ys) els (λ x. 0) list in
+    let same2 : code2 ≡ last (list, w.0) =
+    rw (c.as_slice-7.ensures.value, c.as_slice-8.ensures.value, c.as_slice-9.ensures.value)
+    (second_each m p els S D e b f c.requires (map vec_items c.in_ok-whole.whole.items)
+    c.in_ok-starts.starts.items c.in_ok-behind.behind.items w.0 g2 st w.2 lb list) in
+    let whole : finished m p els S D e b f xs ≡ code2 = ap (λ (o : Outcome (List SfNode × (ℕ → ℕ))).
+    bind o last) (sym same) ∙ bind_done code last (list, w.0) w.1 ∙ sym same2 in
     let z = c.in_ok-table.ensures.table in
     record {
       table = (z.0, whole ∙ z.1, z.2);
-      long = c.in_ok-table.ensures.long ∙ ap (λ (zs : List (Option ℕ)). length zs) c.as_slice-8.ensures.value ∙ st.long ∙ c.requires.first_long;
+      long = c.in_ok-table.ensures.long ∙ ap (λ (zs : List (Option ℕ)). length zs)
+          c.as_slice-8.ensures.value ∙ st.long ∙ c.requires.first_long;
     }

@@ -1,4 +1,5 @@
-use Rattle.std.proofs.Common.{◌≡◌, Some, None, [], length, slice_index, slice_index_or, map, vec_items}
+use Rattle.std.proofs.Common.{◌≡◌, Some, None, [], length, slice_index, slice_index_or, map}
+use Rattle.std.proofs.Common.{vec_items}
 use Rattle.star_free_theory.specs.Construction.{join_all}
 use Rattle.star_free_lists.specs.Building.{IsSoFar}
 use Rattle.star_free_lists.proofs.treating.join_groups.Given as goal
@@ -6,4 +7,6 @@ use Rattle.star_free_lists.proofs.treating.join_groups.Given as goal
 abbrev pub invariant-loop-element : goal.invariant-loop-element
 invariant-loop-element l =
     (length l.table.items ≡ length l.starts)
-    × IsSoFar (λ ys u. join_all (Some l.most) (slice_index l.first) (slice_index l.second) (slice_index_or l.starts u None) (slice_index_or (map vec_items l.groups) u []) ys) l.elements l.element-index l.fn.list l.list l.table.items
+    × IsSoFar (λ ys u. join_all (Some l.most) (slice_index l.first) (slice_index l.second)
+    (slice_index_or l.starts u None) (slice_index_or (map vec_items l.groups) u []) ys)
+    l.elements l.element-index l.fn.list l.list l.table.items

@@ -5,7 +5,8 @@ use Rattle.star_free_lists.proofs.Finishing.{starts_none, starts_more}
 use Rattle.star_free_lists.proofs.treating.starts.Goals as goal
 
 pub loop-element-init : goal.loop-element-init
-loop-element-init c = starts_none c.args.first.now c.in_ok-starts.starts.items c.in_ok-starts.ensures
+loop-element-init c = starts_none c.args.first.now c.in_ok-starts.starts.items
+    c.in_ok-starts.ensures
 
 pub loop-element-preserved : goal.loop-element-preserved
 loop-element-preserved c =
@@ -13,4 +14,5 @@ loop-element-preserved c =
     let i = c.loop-element.element-index in
     let t : ℕ = get_or some i 0 in
     let l : t < length c.args.first.now = grind (arith, common_steps) in
-    rw (take_more some i 0 c.loop-element-test.true) (starts_more (take i some) c.args.first.now c.loop-element.starts.items t l c.loop-element.invariant)
+    rw (take_more some i 0 c.loop-element-test.true) (starts_more (take i some) c.args.first.now
+    c.loop-element.starts.items t l c.loop-element.invariant)

@@ -6,14 +6,18 @@ use Rattle.star_free_lists.proofs.building.Builder.put.Goals as goal
 
 pub returns-in-Some : goal.returns-in-Some
 returns-in-Some c =
-    subst (λ (b : List SfNode). put (Some c.args.most) (place c.args.node b) b c.args.node ≡ done (b, c.in-Some.place)) c.self.view_is
-    (put_found (Some c.args.most) c.args.node c.self.inside.nodes.keys c.in-Some.place (sym c.get_index_of.ensures.index ∙ c.in-Some.is))
+    subst (λ (b : List SfNode). put (Some c.args.most) (place c.args.node b) b c.args.node
+    ≡ done (b, c.in-Some.place)) c.self.view_is
+    (put_found (Some c.args.most) c.args.node c.self.inside.nodes.keys c.in-Some.place
+    (sym c.get_index_of.ensures.index ∙ c.in-Some.is))
 
 pub returns-then-len-most : goal.returns-then-len-most
 returns-then-len-most c =
     let e : c.len.result ≡ length c.self.inside.nodes.keys = c.len.ensures.len in
-    subst (λ (b : List SfNode). put (Some c.args.most) (place c.args.node b) b c.args.node ≡ nodes) c.self.view_is
-    (put_full c.args.most c.args.node c.self.inside.nodes.keys (sym c.get_index_of.ensures.index ∙ c.in_default.is) (omega (arith, c.if-len-most.true)))
+    subst (λ (b : List SfNode). put (Some c.args.most) (place c.args.node b) b c.args.node ≡ nodes)
+    c.self.view_is
+    (put_full c.args.most c.args.node c.self.inside.nodes.keys (sym c.get_index_of.ensures.index
+    ∙ c.in_default.is) (omega (arith, c.if-len-most.true)))
 
 pub returns : goal.returns
 returns c =
@@ -22,6 +26,9 @@ returns c =
     let xs = c.self.inside.nodes.keys in
     let ys = c.insert_full.new.self.keys in
     let p = c.in_ok-place.place in
-    subst (λ (b : List SfNode). put (Some c.args.most) (place x b) b x ≡ done (ys, p)) c.self.view_is
-    (put_new c.args.most x xs ys p (sym c.get_index_of.ensures.index ∙ c.in_default.is) (sym c.get_index_of.ensures.found ∙ ap is_some c.in_default.is) (omega (arith, c.if-len-most.false))
+    subst (λ (b : List SfNode). put (Some c.args.most) (place x b) b x ≡ done (ys, p))
+    c.self.view_is
+    (put_new c.args.most x xs ys p (sym c.get_index_of.ensures.index ∙ c.in_default.is)
+    (sym c.get_index_of.ensures.found ∙ ap is_some c.in_default.is)
+    (omega (arith, c.if-len-most.false))
     c.in_ok-place.ensures.keys c.in_ok-place.ensures.index c.in_ok-place.ensures.within)
