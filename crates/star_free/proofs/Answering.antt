@@ -130,10 +130,10 @@ module _ (k : ℕ) (L : List ℕ → Type 0) where
             t.2,
           )
 
-  no_both : (x : List ℕ) (i p : ℕ) → IsFirstLoopWord k L x i p → ¬ IsAperiodic k (Syntactic k L)
+  pub no_both : (x : List ℕ) (i p : ℕ) → IsFirstLoopWord k L x i p → ¬ IsAperiodic k (Syntactic k L)
   no_both x i p (words, e, l, f, is) = loop_not_aperiodic k (Syntactic k L) words l e i p f
 
-  one_loop : (l m : Loop) → IsLoop k L l → IsLoop k L m → l ≡ m
+  pub one_loop : (l m : Loop) → IsLoop k L l → IsLoop k L m → l ≡ m
   one_loop l m h g = by l m h (one_first_loop l.x m.x l.index l.period m.index m.period h.word g.word) g
     where
       by : (l m : Loop) → IsLoop k L l → (l.x ≡ m.x) × (l.index ≡ m.index) × (l.period ≡ m.period)

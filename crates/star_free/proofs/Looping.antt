@@ -75,7 +75,7 @@ module _ (m : SyntacticMonoid) (h : IsSyntactic m) where
   abbrev k : ℕ
   k = m.graphs.right.letters
 
-  agree : Agree m.graphs.right.letters (SameNode m.graphs.right)
+  pub agree : Agree m.graphs.right.letters (SameNode m.graphs.right)
       (Syntactic m.graphs.right.letters (recognised m))
   agree = graphs_agree k (Syntactic k (recognised m)) (syntactic_congruence k (recognised m))
       m.graphs h.monoid.graphs

@@ -1,7 +1,9 @@
 //! Worked examples, with values found by hand.
 ghost use Rattle.std.specs.Prelude.{◌≤◌};
+ghost use Rattle.star_free_lists.specs.SfList.{most_nodes};
 
-use crate::{Powers, decide};
+use crate::{Powers, SfAnswer, decide, star_free};
+use parallel_table::{fill, new_table};
 use std::alloc::Global;
 use std::test::Fail;
 use std::thread::Threads;
@@ -78,5 +80,65 @@ fn ab_star_settles(rt: HostRuntime) -> Result<(), Fail> {
     let monoid = monoid_of(&rt, rt.alloc(), &ab_star(rt.alloc())?)?;
     let text = powers_text(rt.alloc(), &decide(rt.alloc(), &monoid)?)?;
     assert_eq!(rt; text.as_slice(), b"".as_slice());
+    Ok(())
+}
+
+/// The star-free answer of a monoid of at most six elements, with the table of its products.
+fn answer_of<R: Threads + Sync>(
+    rt: &R,
+    alloc: Global,
+    monoid: &Syntactic,
+    most: u32,
+) -> Result<SfAnswer, Memory>
+    requires { most ≤ most_nodes }
+{
+    let Ok(mut table) = new_table(alloc, monoid.cayley(), 6) else {
+        return Err(Memory);
+    };
+    fill(rt, monoid.cayley(), &mut table, 1, &OpenGate);
+    star_free(alloc, monoid, Some(&table), most)
+}
+
+/// The number of nodes of a list, and whether it denotes a word; none where the answer is no list.
+fn told_by(
+    alloc: Global,
+    answer: &SfAnswer,
+    letters: &[u8],
+) -> Result<Option<(u32, bool)>, Memory> {
+    let SfAnswer::Yes(list) = answer else {
+        return Ok(None);
+    };
+    let mut word = Word::new(alloc);
+    for letter in letters {
+        word.push(*letter)?;
+    }
+    Ok(Some((list.len(), list.accepts(alloc, &word)?)))
+}
+
+#[test]
+fn ab_star_has_a_list(rt: HostRuntime) -> Result<(), Fail> {
+    let alloc = rt.alloc();
+    let monoid = monoid_of(&rt, alloc, &ab_star(alloc)?)?;
+    let answer = answer_of(&rt, alloc, &monoid, 60)?;
+    assert_eq!(rt;
+        told_by(alloc, &answer, b"\x00\x01\x00\x01")?,
+        Some((24, true))
+    );
+    assert_eq!(rt;
+        told_by(alloc, &answer, b"\x00\x01\x00")?,
+        Some((24, false))
+    );
+    let few = answer_of(&rt, alloc, &monoid, 59)?;
+    assert!(rt; matches!(few, SfAnswer::Nodes));
+    let none = star_free(alloc, &monoid, None, 60)?;
+    assert!(rt; matches!(none, SfAnswer::TableLimit));
+    Ok(())
+}
+
+#[test]
+fn even_length_has_no_list(rt: HostRuntime) -> Result<(), Fail> {
+    let monoid = monoid_of(&rt, rt.alloc(), &even_length(rt.alloc())?)?;
+    let answer = star_free(rt.alloc(), &monoid, None, 1)?;
+    assert!(rt; matches!(answer, SfAnswer::No(_)));
     Ok(())
 }
