@@ -12,28 +12,34 @@ use Rattle.command_line.specs.declared.fault.LineFault.TheVariants as fault
 use Rattle.command_line.specs.declared.request.Request.{Request}
 use Rattle.command_line.specs.Tables.{OptionRow, options, option_at, command_word}
 use Rattle.command_line.specs.Parsing.{rows_of_line}
-use Rattle.command_line.specs.Line.{IsTaken, IsLine, IsNumberIn, AreNumbersIn, IsFaultOf, IsInRange, numbers_of}
+use Rattle.command_line.specs.Line.{IsTaken, IsLine, IsSize, IsSizeFor, IsNumberIn, AreNumbersIn, IsFaultOf, IsInRange, numbers_of}
 
 -- the command with a word
 named : List ℕ → Command
 named word = cond (bytes_eq word (codes "monoid")) command.Monoid
     (cond (bytes_eq word (codes "green")) command.Green
+    (cond (bytes_eq word (codes "starfree")) command.StarFree
     (cond (bytes_eq word (codes "piecewise")) command.Piecewise
     (cond (bytes_eq word (codes "local")) command.Local
     (cond (bytes_eq word (codes "rtrivial")) command.RTrivial
     (cond (bytes_eq word (codes "commutative")) command.Commutative
-    (cond (bytes_eq word (codes "table")) command.Table command.Automaton))))))
+    (cond (bytes_eq word (codes "table")) command.Table
+    (cond (bytes_eq word (codes "report")) command.Report
+    (cond (bytes_eq word (codes "generate")) command.Generate command.Automaton)))))))))
 
 named-word : (c : Command) → named (command_word c) ≡ c
 unfolding named
 named-word command.Automaton = refl
 named-word command.Monoid = refl
 named-word command.Green = refl
+named-word command.StarFree = refl
 named-word command.Piecewise = refl
 named-word command.Local = refl
 named-word command.RTrivial = refl
 named-word command.Commutative = refl
 named-word command.Table = refl
+named-word command.Report = refl
+named-word command.Generate = refl
 
 -- the word of a command is no other's
 one_command : (c d : Command) → command_word c ≡ command_word d → c ≡ d
@@ -57,10 +63,19 @@ number_at given r s place h small p q =
     one_number given (option_at place) (get_or (numbers_of r) place 0)
     (get_or (numbers_of s) place 0) small (p place h) (q place h)
 
-request_of : Command → List ℕ → ℕ → ℕ → ℕ → ℕ → ℕ → ℕ → ℕ → Request
-request_of c name subsets elements table nodes level pairs workers = record {
+-- a command and its operand have one size
+one_size : (c : Command) (operand : List ℕ) (m n : ℕ) → IsSizeFor c operand m
+    → IsSizeFor c operand n → m ≡ n
+one_size command.Generate operand m n p q =
+    decimal_injective m n (omega (arith, p.most)) (omega (arith, q.most))
+    (sym p.spelled ∙ q.spelled)
+one_size other operand m n p q = p ∙ sym q
+
+request_of : Command → List ℕ → ℕ → ℕ → ℕ → ℕ → ℕ → ℕ → ℕ → ℕ → Request
+request_of c name size subsets elements table nodes level pairs workers = record {
   command = c;
   operand = name;
+  size = size;
   subsets = subsets;
   elements = elements;
   table = table;
@@ -77,6 +92,10 @@ one_request words r s p q =
     let given = rows_of_line words in
     let c = one_command r.command s.command (one_text _ _ _ p.taken.first q.taken.first) in
     let o = one_text _ _ _ p.taken.second q.taken.second in
+    let i : r.size ≡ s.size =
+    one_size r.command r.operand r.size s.size p.size
+    (subst (λ (d : Command). IsSizeFor d r.operand s.size) (sym c)
+    (subst (λ (operand : List ℕ). IsSizeFor s.command operand s.size) (sym o) q.size)) in
     let a : r.subsets ≡ s.subsets =
     number_at given r s 0 (omega arith) (omega arith) p.numbers q.numbers in
     let b : r.elements ≡ s.elements =
@@ -91,14 +110,20 @@ one_request words r s p q =
     number_at given r s 5 (omega arith) (omega arith) p.numbers q.numbers in
     let h : r.workers ≡ s.workers =
     number_at given r s 6 (omega arith) (omega arith) p.numbers q.numbers in
-    let whole : request_of r.command r.operand r.subsets r.elements r.table r.nodes r.level r.pairs
-    r.workers
-    ≡ request_of s.command s.operand s.subsets s.elements s.table s.nodes s.level s.pairs
+    let whole : request_of r.command r.operand r.size r.subsets r.elements r.table r.nodes r.level
+    r.pairs r.workers
+    ≡ request_of s.command s.operand s.size s.subsets s.elements s.table s.nodes s.level s.pairs
     s.workers = cc in
     whole
 
+-- the size of a line with the command `generate`
+generate_size : (words : List (List ℕ)) (r : Request) → IsLine words r
+    → r.command ≡ command.Generate → IsSize r.operand r.size
+generate_size words r line e = subst (λ (c : Command). IsSizeFor c r.operand r.size) e line.size
+
 pub line_in_range : (words : List (List ℕ)) (r : Request) → IsLine words r → IsInRange r
 line_in_range words r line = record {
+  size = λ e. let is = generate_size words r line e in (is.least, is.most);
   subsets = (line.numbers 0 (omega arith)).most;
   elements = (line.numbers 1 (omega arith)).most;
   table = (line.numbers 2 (omega arith)).most;
@@ -118,4 +143,10 @@ line_without_fault words r fault.Command line h =
     absurd (h.unknown r.command (one_text _ _ _ h.taken.first line.taken.first))
 line_without_fault words r (fault.Number place) line h =
     absurd (h.first.bad (get_or (numbers_of r) place 0) (line.numbers place h.first.within))
+line_without_fault words r fault.Size line h =
+    let is : r.command ≡ command.Generate =
+    one_command r.command command.Generate (one_text _ _ _ line.taken.first h.taken.first) in
+    let same : r.operand ≡ h.operand = one_text _ _ _ line.taken.second h.taken.second in
+    absurd (h.bad r.size (subst (λ (operand : List ℕ). IsSize operand r.size) same
+    (generate_size words r line is)))
 line_without_fault words r fault.Memory line h = refl

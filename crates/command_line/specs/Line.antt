@@ -3,10 +3,11 @@ use Rattle.std.specs.Prelude.{◌≡◌, ◌<◌, ◌≤◌, ℕ, List, [], ◌�
 use Rattle.std.specs.Fmt.{decimal}
 use Rattle.clap.specs.Words.{Row, first_of}
 use Rattle.command_line.specs.declared.commands.Command.{Command}
+use Rattle.command_line.specs.declared.commands.Command.TheVariants as command
 use Rattle.command_line.specs.declared.fault.LineFault.{LineFault}
 use Rattle.command_line.specs.declared.fault.LineFault.TheVariants as fault
 use Rattle.command_line.specs.declared.request.Request.{Request}
-use Rattle.command_line.specs.Tables.{OptionRow, options, option_at, command_word}
+use Rattle.command_line.specs.Tables.{OptionRow, options, option_at, command_word, least_size, most_size}
 use Rattle.command_line.specs.Parsing.{faults_of, rows_of_line}
 
 -- `clap` takes the words, and they give this command word and this operand
@@ -35,10 +36,22 @@ abbrev pub AreNumbersIn : List Row → List ℕ → Type 0
 AreNumbersIn given numbers = (place : ℕ) → place < length options
     → IsNumberIn given (option_at place) (slice_index numbers place)
 
+-- a text is the decimal digits of a size that a generated file may have
+pub record IsSize (text : List ℕ) (n : ℕ) : Type 0 where
+  pub spelled : text ≡ decimal n
+  pub least : least_size ≤ n
+  pub most : n ≤ most_size
+
+-- the size of a request: for `generate` that of its operand, and 0 for each other command
+abbrev pub IsSizeFor : Command → List ℕ → ℕ → Type 0
+IsSizeFor command.Generate operand n = IsSize operand n
+IsSizeFor other operand n = n ≡ 0
+
 -- the words are a line, and ask for this
 pub record IsLine (words : List (List ℕ)) (request : Request) : Type 0 where
   pub taken : IsTaken words (command_word request.command) request.operand
   pub numbers : AreNumbersIn (rows_of_line words) (numbers_of request)
+  pub size : IsSizeFor request.command request.operand request.size
 
 -- the words are a line
 abbrev pub IsAccepted : List (List ℕ) → Type 0
@@ -69,16 +82,28 @@ pub record IsBadNumber (words : List (List ℕ)) (place : ℕ) : Type 0 where
   pub taken : IsTaken words (command_word command) operand
   pub first : IsFirstBad (rows_of_line words) place
 
+-- the words are taken, name the command `generate`, and each option has a number in its range, but
+-- the operand is no size
+pub record IsBadSize (words : List (List ℕ)) : Type 0 where
+  pub operand : List ℕ
+  pub taken : IsTaken words (command_word command.Generate) operand
+  pub numbers : (place : ℕ) → place < length options
+      → (n : ℕ) × IsNumberIn (rows_of_line words) (option_at place) n
+  pub bad : (n : ℕ) → ¬ IsSize operand n
+
 -- The table of faults: what holds of the words where `read_line` answers with each. Want of memory
 -- may come at any time.
 abbrev pub IsFaultOf : List (List ℕ) → LineFault → Type 0
 IsFaultOf words fault.Words = AreNoWords words
 IsFaultOf words fault.Command = IsNoCommand words
 IsFaultOf words (fault.Number place) = IsBadNumber words place
+IsFaultOf words fault.Size = IsBadSize words
 IsFaultOf words fault.Memory = ⊤
 
--- the numbers of a request are in the ranges of their options
+-- the numbers of a request are in the ranges of their options, and its size for `generate` is one of
+-- a generated file
 pub record IsInRange (r : Request) : Type 0 where
+  pub size : r.command ≡ command.Generate → (least_size ≤ r.size) × (r.size ≤ most_size)
   pub subsets : r.subsets ≤ 4096
   pub elements : r.elements ≤ 50000
   pub table : r.table ≤ 8000

@@ -35,8 +35,19 @@ abbrev pub command_word : Command → List ℕ
 command_word command.Automaton = codes "automaton"
 command_word command.Monoid = codes "monoid"
 command_word command.Green = codes "green"
+command_word command.StarFree = codes "starfree"
 command_word command.Piecewise = codes "piecewise"
 command_word command.Local = codes "local"
 command_word command.RTrivial = codes "rtrivial"
 command_word command.Commutative = codes "commutative"
 command_word command.Table = codes "table"
+command_word command.Report = codes "report"
+command_word command.Generate = codes "generate"
+
+-- the least size of a generated file
+abbrev pub least_size : ℕ
+least_size = 2
+
+-- the greatest size of a generated file
+abbrev pub most_size : ℕ
+most_size = 1000

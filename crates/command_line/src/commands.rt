@@ -11,6 +11,8 @@ pub enum Command {
     Monoid,
     /// Green's classes of the syntactic monoid, as an egg-box diagram.
     Green,
+    /// Whether the language is star-free, with a star-free expression.
+    StarFree,
     /// Whether short subwords tell the language, and from which length on.
     Piecewise,
     /// Whether short factors tell the language, and from which length on.
@@ -21,6 +23,10 @@ pub enum Command {
     Commutative,
     /// The products of all elements.
     Table,
+    /// All sections but the table.
+    Report,
+    /// The numbers and the answers for the generated file of a size.
+    Generate,
 }
 
 /// The command with a word.
@@ -32,11 +38,14 @@ pub(crate) fn command_of(word: &str) -> Option<Command>
         "automaton" => Some(Command::Automaton),
         "monoid" => Some(Command::Monoid),
         "green" => Some(Command::Green),
+        "starfree" => Some(Command::StarFree),
         "piecewise" => Some(Command::Piecewise),
         "local" => Some(Command::Local),
         "rtrivial" => Some(Command::RTrivial),
         "commutative" => Some(Command::Commutative),
         "table" => Some(Command::Table),
+        "report" => Some(Command::Report),
+        "generate" => Some(Command::Generate),
         _ => None,
     }
 }

@@ -19,6 +19,9 @@ pub enum LineFault {
         /// The place of the option in the table.
         option: u8,
     },
+    /// The command is `generate`, and the operand is no size of a generated file.
+    #[error("bad size")]
+    Size,
     /// The system gave no memory.
     #[error("out of memory")]
     Memory,

@@ -2,15 +2,21 @@
 ghost use Rattle.std.specs.Prelude.{◌≡◌, ◌≤◌, ◌∷◌, ℕ, [], map, decimal, string_bytes, IfOk, IfErr, IfSome, IsNone};
 ghost use Rattle.clap.specs.Words.{found_of, rows_of};
 ghost use Rattle.command_line.specs.Tables.{row, option_at};
-ghost use Rattle.command_line.specs.Line.{IsLine, IsNumberIn, AreNumbersIn, IsFirstBad, IsFaultOf, IsInRange};
+ghost use Rattle.command_line.specs.Line.{IsLine, IsSize, IsSizeFor, IsNumberIn, AreNumbersIn, IsFirstBad, IsFaultOf, IsInRange};
 
-use crate::commands::command_of;
+use crate::commands::{Command, command_of};
 use crate::fault::LineFault;
 use crate::options::{OPTION_COUNT, OptionRow, option_at};
 use crate::parsing::{parse, value_of};
 use crate::request::{Name, Request};
 use clap::ArgMatches;
 use std::alloc::Global;
+
+/// The least size of a generated file.
+const LEAST_SIZE: u32 = 2;
+
+/// The greatest size of a generated file.
+const MOST_SIZE: u32 = 1_000;
 
 /// What the words after the program's name ask for. A fault comes exactly where the words have it, and none that stands
 /// before it in `LineFault`.
@@ -30,11 +36,13 @@ pub fn read_line(alloc: Global, words: &[String]) -> Result<Request, LineFault>
         return Err(LineFault::Command);
     };
     let numbers = read_numbers(&matches)?;
+    let size = size_for(command, operand)?;
     let operand = Name::of(alloc, operand)?;
     let [subsets, elements, table, nodes, level, pairs, workers] = numbers;
     Ok(Request {
         command,
         operand,
+        size,
         subsets,
         elements,
         table,
@@ -77,6 +85,29 @@ fn read_option(matches: &ArgMatches<'_>, option: OptionRow) -> Option<u32>
         Some(text) => read_number(text, option.least, option.most),
         None => Some(option.usual),
     }
+}
+
+/// The size of a request of the command: for `generate` that of its operand, and 0 for each other command.
+fn size_for(command: Command, operand: &str) -> Result<u32, LineFault>
+    ensures size { IfOk result (IsSizeFor command operand.now) }
+    ensures fault { IfErr result (λ fault. (fault ≡ LineFault.Size) × (command ≡ Command.Generate)
+        × ((n : ℕ) → ¬ IsSize operand.now n)) }
+{
+    match command {
+        Command::Generate => match read_size(operand) {
+            Some(size) => Ok(size),
+            None => Err(LineFault::Size),
+        },
+        _ => Ok(0),
+    }
+}
+
+/// The size of a generated file that a text is.
+fn read_size(text: &str) -> Option<u32>
+    ensures some { IfSome result (IsSize text.now) }
+    ensures none { IsNone result → (n : ℕ) → ¬ IsSize text.now n }
+{
+    read_number(text, LEAST_SIZE, MOST_SIZE)
 }
 
 /// The number from `least` to `most` that a text is in decimal digits, without a leading zero.

@@ -37,13 +37,16 @@ impl Name {
     }
 }
 
-/// What the words of a line ask for: a command, the name of the file that it is about, and the number of each option.
+/// What the words of a line ask for: a command, the name of the file that it is about or the size of the generated file,
+/// and the number of each option.
 #[derive(Drop)]
 pub struct Request {
     /// What to print.
     pub command: Command,
-    /// The name of the file.
+    /// The name of the file, or the digits of the size for `generate`.
     pub operand: Name,
+    /// The size of the generated file; 0 for a command other than `generate`.
+    pub size: u32,
     /// The most sets of states that words may lead to.
     pub subsets: u32,
     /// The most elements of the syntactic monoid.

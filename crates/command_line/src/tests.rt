@@ -82,7 +82,7 @@ const LINES: [(&[&str], Command, [u32; 7]); 8] = [
 ];
 
 /// Words that are no line, and the first fault.
-const FAULTS: [(&[&str], LineFault); 28] = [
+const FAULTS: [(&[&str], LineFault); 36] = [
     (&[], LineFault::Words),
     (&["monoid"], LineFault::Words),
     (&["monoid", "f", "g"], LineFault::Words),
@@ -153,6 +153,17 @@ const FAULTS: [(&[&str], LineFault); 28] = [
         &["automaton", "--workers", "0", "--level", "0", "f"],
         LineFault::Number { option: 4 },
     ),
+    (&["generate"], LineFault::Words),
+    (&["Generate", "1"], LineFault::Command),
+    (
+        &["generate", "--workers", "0", "1"],
+        LineFault::Number { option: 6 },
+    ),
+    (&["generate", "1"], LineFault::Size),
+    (&["generate", "1001"], LineFault::Size),
+    (&["generate", "02"], LineFault::Size),
+    (&["generate", "4294967298"], LineFault::Size),
+    (&["generate", "f"], LineFault::Size),
 ];
 
 fn listed(alloc: Global, words: &[&str]) -> Result<Vec<String>, Fail> {
@@ -210,6 +221,23 @@ fn other_words_have_a_first_fault(rt: HostRuntime) -> Result<(), Fail> {
     for (words, fault) in FAULTS {
         let list = listed(rt.alloc(), words)?;
         assert_eq!(&rt; read_line(rt.alloc(), list.as_slice()).err(), Some(fault));
+    }
+    Ok(())
+}
+
+#[test]
+fn generate_takes_a_size(rt: HostRuntime) -> Result<(), Fail> {
+    let rows: [(&[&str], Command, u32); 5] = [
+        (&["generate", "2"], Command::Generate, 2),
+        (&["generate", "1000"], Command::Generate, 1_000),
+        (&["generate", "--workers", "7", "17"], Command::Generate, 17),
+        (&["automaton", "2"], Command::Automaton, 0),
+        (&["table", "f"], Command::Table, 0),
+    ];
+    for (words, command, size) in rows {
+        let list = listed(rt.alloc(), words)?;
+        let request = read_line(rt.alloc(), list.as_slice())?;
+        assert_eq!(&rt; (request.command, request.size), (command, size));
     }
     Ok(())
 }

@@ -1,3 +1,4 @@
 pub mod Channels
 pub mod Separated
 pub mod Pieces
+pub mod FirstLines

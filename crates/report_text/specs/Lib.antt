@@ -2,8 +2,10 @@ pub mod Texts
 pub mod Saying
 pub mod AutomatonSection
 pub mod MonoidSection
+pub mod StarFreeSection
 pub mod TableSection
 pub mod GreenSection
 pub mod PiecewiseSection
 pub mod LocalSection
 pub mod CommutativeSection
+pub mod SummarySection

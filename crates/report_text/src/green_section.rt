@@ -107,7 +107,7 @@ fn say_idempotents<S: Sink>(
 }
 
 /// The number of idempotents.
-fn idempotents_of(green: &Green) -> u32
+pub fn idempotents_of(green: &Green) -> u32
     ensures { result ≡ marks_below green.now.idempotents (length green.now.r) }
 {
     let mut count = 0;

@@ -73,7 +73,7 @@ fn push_witness(text: &mut Vec<u8>, alphabet: &Alphabet, witness: &LtWitness) ->
 }
 
 /// Puts behind a text what fails.
-fn push_kind(text: &mut Vec<u8>, kind: LtKind) -> Result<(), Memory>
+pub(crate) fn push_kind(text: &mut Vec<u8>, kind: LtKind) -> Result<(), Memory>
     ensures { OnOk result (text.new.items ≡ text.old.items ++ kind_text kind) }
 {
     match kind {

@@ -101,7 +101,7 @@ fn push_no(text: &mut Vec<u8>, alphabet: &Alphabet, witness: &PtWitness) -> Resu
 }
 
 /// Puts the head of the answer no behind a text.
-fn push_no_head(text: &mut Vec<u8>, witness: &PtWitness) -> Result<(), Memory>
+pub(crate) fn push_no_head(text: &mut Vec<u8>, witness: &PtWitness) -> Result<(), Memory>
     ensures { OnOk result (text.new.items ≡ text.old.items ++ no_head witness.now) }
 {
     push_bytes(text, b"piecewise no ")?;

@@ -1,6 +1,6 @@
 -- The egg-box diagram of a language's syntactic monoid.
-use Rattle.std.proofs.Common.{◌≡◌, ℕ, Bool, List, length, sym, subst}
-use Rattle.language_theory.specs.Congruence.{Syntactic, Agree}
+use Rattle.std.proofs.Common.{◌≡◌, ℕ, Bool, List, subst}
+use Rattle.language_theory.specs.Congruence.{Syntactic}
 use Rattle.language_theory.specs.ShortlexGraph.{SameNode}
 use Rattle.language_theory.proofs.Congruences.{syntactic_congruence}
 use Rattle.monoid_theory.specs.Green.{IsIdempotent}

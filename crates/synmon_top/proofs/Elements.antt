@@ -1,7 +1,7 @@
 -- The syntactic monoid of a source's language, and its rules.
-use Rattle.std.proofs.Common.{◌≡◌, ℕ, List, Option, Some, None, length, refl, ap, sym, ◌∙◌, subst}
+use Rattle.std.proofs.Common.{◌≡◌, ℕ, List, Option, Some, None, length, refl, sym, subst}
 use Rattle.std.specs.Prelude.{IsTrue, IfSome, is_some}
-use Rattle.language_theory.specs.Congruence.{Syntactic, Agree}
+use Rattle.language_theory.specs.Congruence.{Syntactic}
 use Rattle.language_theory.specs.Languages.{HaveSameWords}
 use Rattle.language_theory.specs.Nerode.{MinimalAutomaton, IsMinimal, accepted}
 use Rattle.language_theory.specs.Representatives.{HasMoreClasses}
@@ -11,10 +11,9 @@ use Rattle.language_theory.proofs.Representatives.{agreeing_classes}
 use Rattle.monoid_theory.specs.Presentation.{AreRules}
 use Rattle.monoid_theory.proofs.Agreeing.{agreeing_rules}
 use Rattle.monoid_theory.proofs.Rewriting.{rules_are_one}
-use Rattle.cayley_tables.specs.CayleyGraphs.{AreGraphsOf}
-use Rattle.cayley_tables.proofs.AgreeingGraphs.{right_graph_of, graphs_agree}
+use Rattle.cayley_tables.proofs.AgreeingGraphs.{graphs_agree}
 use Rattle.syntactic_monoid.specs.SyntacticMonoid.{SyntacticMonoid, IsSyntacticMonoid}
-use Rattle.syntactic_monoid.proofs.OneMonoid.{monoid_of_agreeing, monoids_are_one}
+use Rattle.syntactic_monoid.proofs.OneMonoid.{monoid_of_agreeing}
 use Rattle.automaton_file.specs.FileText.{SourceText, language_of}
 use Rattle.synmon_top.specs.Reports.{HasMoreElements}
 

@@ -1,10 +1,11 @@
 -- From what the work on a file's bytes came to, to how a run ended.
-use Rattle.std.proofs.Common.{◌≡◌, ◌⊎◌, ℕ, ◌+◌, true, false, List, [], ◌++◌, map, Option, Some, None, Result, Ok, Err, inl, inr, refl, ap, ◌∙◌, subst, take, append-nil}
+use Rattle.std.proofs.Common.{◌≡◌, ℕ, ◌+◌, true, false, List, [], ◌∷◌, ◌++◌, map, Option, Some, None, Result, Ok, Err, inl, inr, refl, sym, ap, ◌∙◌, subst, take, append-nil}
 use Rattle.std.specs.Prelude.{◌↔◌, OnErr, All}
 use Rattle.std.proofs.lemmas.List.Elements.{All-nil, All-cons}
 use Rattle.std.specs.Io.KnownBytes.{Appends}
 use Rattle.std.proofs.KnownBytes.{Appends-nil}
-use Rattle.syn_outside.specs.NamedFiles.{NamedFiles, bytes_of, HasPrefix}
+use Rattle.generated_file.specs.Generated.{generated_text}
+use Rattle.syn_outside.specs.NamedFiles.{NamedFiles, HasPrefix}
 use Rattle.automaton_file.specs.FileText.{SourceText, IsSource, IsRefusal, language_of, most_bytes}
 use Rattle.automaton_file.proofs.SourceLaws.{prefix_spells, prefix_refused}
 use Rattle.command_line.specs.declared.commands.Command.{Command}
@@ -23,7 +24,7 @@ use Rattle.synmon_top.specs.declared.sections.Section.{Section}
 use Rattle.synmon_top.specs.declared.sections.Section.TheVariants as section
 use Rattle.synmon_top.specs.declared.answers.Answer.{Answer}
 use Rattle.synmon_top.specs.Reports.{Task, task_of, HasMoreSubsets, HasMoreElements, NeedsElements, NeedsGreen, NeedsTable, IsWithin, IsStop, Verdict, said, stopped, refused, IsReportOn, IsVerdict}
-use Rattle.synmon_top.specs.Outcome.{AreBytesOf, IsDue, BeginsDue, IsGivenPrefix, Outcome, EndsOn, Ends, ending_of_fault}
+use Rattle.synmon_top.specs.Outcome.{IsAboutFile, AreBytesFor, AreReadFor, AsksForFile, IsDue, IsGivenPrefix, Outcome, EndsOn, Ends, ending_of_fault}
 use Rattle.synmon_top.specs.declared.ending.Ending.{Ending}
 use Rattle.synmon_top.specs.declared.ending.Ending.TheVariants as ending
 use Rattle.synmon_top.specs.declared.ending.Stop.{Stop}
@@ -36,6 +37,19 @@ unstopped request source within (stop.Subsets n) (same, more) =
 unstopped request source within (stop.Elements n) (needs, few, same, more) =
     within.elements needs (subst (HasMoreElements source) same more)
 
+-- what holds of eight sections
+eight_sections : (P : Section → Type 0) (a b c d e f g h : Section) → P a → P b → P c → P d → P e
+    → P f → P g → P h → All P (a ∷ b ∷ c ∷ d ∷ e ∷ f ∷ g ∷ h ∷ [])
+eight_sections P a b c d e f g h pa pb pc pd pe pf pg ph =
+    All-cons P a (b ∷ c ∷ d ∷ e ∷ f ∷ g ∷ h ∷ []) pa
+    (All-cons P b (c ∷ d ∷ e ∷ f ∷ g ∷ h ∷ []) pb
+    (All-cons P c (d ∷ e ∷ f ∷ g ∷ h ∷ []) pc
+    (All-cons P d (e ∷ f ∷ g ∷ h ∷ []) pd
+    (All-cons P e (f ∷ g ∷ h ∷ []) pe
+    (All-cons P f (g ∷ h ∷ []) pf
+    (All-cons P g (h ∷ []) pg
+    (All-cons P h [] ph (All-nil P))))))))
+
 -- where what a command needs is there, its sections have what they need
 pub needs_there : (c : Command) (v : Values)
     → (NeedsElements c → (m : SyntacticMonoid) × (v.monoid ≡ Some m)) → (NeedsGreen c → HasGreen v)
@@ -46,6 +60,8 @@ needs_there command.Monoid v monoid green table =
     All-cons (HasNeeds v) section.Monoid [] (monoid tt) (All-nil (HasNeeds v))
 needs_there command.Green v monoid green table =
     All-cons (HasNeeds v) section.Green [] (green tt) (All-nil (HasNeeds v))
+needs_there command.StarFree v monoid green table =
+    All-cons (HasNeeds v) section.StarFree [] (table tt) (All-nil (HasNeeds v))
 needs_there command.Piecewise v monoid green table =
     All-cons (HasNeeds v) section.Piecewise [] (green tt) (All-nil (HasNeeds v))
 needs_there command.Local v monoid green table =
@@ -56,27 +72,39 @@ needs_there command.Commutative v monoid green table =
     All-cons (HasNeeds v) section.Commutative [] (monoid tt) (All-nil (HasNeeds v))
 needs_there command.Table v monoid green table =
     All-cons (HasNeeds v) section.Table [] (table tt) (All-nil (HasNeeds v))
+needs_there command.Report v monoid green table =
+    eight_sections (HasNeeds v) section.Automaton section.Monoid section.Green section.StarFree
+    section.Piecewise section.Local section.RTrivial section.Commutative tt (monoid tt) (green tt)
+    (table tt) (green tt) (table tt) (green tt) (monoid tt)
+needs_there command.Generate v monoid green table =
+    All-cons (HasNeeds v) section.Summary [] (green tt, table tt) (All-nil (HasNeeds v))
 
 -- Green's classes and the table are made of the elements
 pub green_needs_elements : (c : Command) → NeedsGreen c → NeedsElements c
 green_needs_elements command.Automaton needs = absurd needs
 green_needs_elements command.Monoid needs = absurd needs
 green_needs_elements command.Green needs = tt
+green_needs_elements command.StarFree needs = absurd needs
 green_needs_elements command.Piecewise needs = tt
 green_needs_elements command.Local needs = absurd needs
 green_needs_elements command.RTrivial needs = tt
 green_needs_elements command.Commutative needs = absurd needs
 green_needs_elements command.Table needs = absurd needs
+green_needs_elements command.Report needs = tt
+green_needs_elements command.Generate needs = tt
 
 pub table_needs_elements : (c : Command) → NeedsTable c → NeedsElements c
 table_needs_elements command.Automaton needs = absurd needs
 table_needs_elements command.Monoid needs = absurd needs
 table_needs_elements command.Green needs = absurd needs
+table_needs_elements command.StarFree needs = tt
 table_needs_elements command.Piecewise needs = absurd needs
 table_needs_elements command.Local needs = tt
 table_needs_elements command.RTrivial needs = absurd needs
 table_needs_elements command.Commutative needs = absurd needs
 table_needs_elements command.Table needs = tt
+table_needs_elements command.Report needs = tt
+table_needs_elements command.Generate needs = tt
 
 -- what the sections say about a source that nothing stops
 pub report_on : (bytes : List ℕ) (request : Request) (source : SourceText) (text : Said)
@@ -106,21 +134,45 @@ verdict_of_prefix file task (stopped s) on = record {
 }
 verdict_of_prefix file task (refused at code) h = prefix_refused file at code h
 
--- the verdict on what was read of a file is due
+-- the verdict on the bytes that were read is that on the bytes that a request is about
+about_read : (c : Command) (held : Option NamedFiles) (bytes : List ℕ) (request : Request)
+    (v : Verdict) → IsVerdict bytes (task_of request) v → AreReadFor c held request bytes
+    → (whole : List ℕ) × AreBytesFor c held request whole × IsVerdict whole (task_of request) v
+about_read command.Generate held bytes request v holds is = (bytes, is, holds)
+about_read other None bytes request v holds prefix = (bytes, tt, holds)
+about_read other (Some files) bytes request v holds (file, named, prefix) = (
+  file,
+  named,
+  verdict_of_prefix file (task_of request) v
+      (subst (λ b. IsVerdict b (task_of request) v) prefix holds),
+)
+
+-- the verdict on the bytes that were read is due
 due : (held : Option NamedFiles) (words : List (List ℕ)) (bytes : List ℕ) (request : Request)
     (v : Verdict) → IsVerdict bytes (task_of request) v
-    → IsLine words request → HasPrefix held request.operand (most_bytes + 1) bytes
+    → IsLine words request → AreReadFor request.command held request bytes
     → IsDue held words v
-due None words bytes request v holds line prefix =
-    record { request = request; line = line; bytes = bytes; about = tt; holds = holds }
-due (Some files) words bytes request v holds line (file, named, prefix) = record {
-  request = request;
-  line = line;
-  bytes = file;
-  about = named;
-  holds = verdict_of_prefix file (task_of request) v
-      (subst (λ b. IsVerdict b (task_of request) v) prefix holds);
-}
+due held words bytes request v holds line read =
+    let whole = about_read request.command held bytes request v holds read in record {
+      request = request;
+      line = line;
+      bytes = whole.0;
+      about = whole.1;
+      holds = whole.2;
+    }
+
+-- as much of the operand's file as is read, for a command about a file
+pub read_of_file : (c : Command) (held : Option NamedFiles) (request : Request) (bytes : List ℕ)
+    → IsAboutFile c → HasPrefix held request.operand (most_bytes + 1) bytes
+    → AreReadFor c held request bytes
+read_of_file command.Generate held request bytes file prefix = absurd file
+read_of_file other held request bytes file prefix = prefix
+
+pub read_of_size : (c : Command) (held : Option NamedFiles) (request : Request) (bytes : List ℕ)
+    → c ≡ command.Generate → bytes ≡ generated_text request.size
+    → AreReadFor c held request bytes
+read_of_size c held request bytes is same =
+    subst (λ (d : Command). AreReadFor d held request bytes) (sym is) same
 
 pub ends_refused : (bytes : List ℕ) (request : Request) (at code : ℕ) (old : Option (List ℕ))
     → IsRefusal bytes at code → EndsOn bytes request (ending.Refused at code) old old
@@ -193,34 +245,52 @@ ends_short bytes request text old new on cut = record {
   gained = cut.gained;
 }
 
--- the operand's file was read, and the work done on its bytes
+-- the bytes were read, and the work done on them
 pub ends_of_report : (held : Option NamedFiles) (words : List (List ℕ)) (request : Request)
     (bytes : List ℕ) (e : Ending) (old new : Option (List ℕ))
-    → IsLine words request → HasPrefix held request.operand (most_bytes + 1) bytes
+    → IsLine words request → AreReadFor request.command held request bytes
     → EndsOn bytes request e old new → Ends held words e old new
-ends_of_report held words request bytes e old new line prefix ends = record {
+ends_of_report held words request bytes e old new line read ends = record {
   out = ends.out;
-  outcome = ends.outcome held words line prefix;
+  outcome = ends.outcome held words line read;
   gained = ends.gained;
 }
 
 -- an outcome goes along with what is due
 pub outcome-along : (held : Option NamedFiles) (words others : List (List ℕ))
-    → (IsAccepted words ↔ IsAccepted others)
+    → (IsAccepted words ↔ IsAccepted others) → (AsksForFile words → AsksForFile others)
     → ((v : Verdict) → IsDue held words v → IsDue held others v) → (e : Ending) (out : List ℕ)
     → Outcome held words e out → Outcome held others e out
-outcome-along held words others accepted goes ending.Whole out h = goes _ h
-outcome-along held words others accepted goes ending.BadLine out h =
+outcome-along held words others accepted file goes ending.Whole out h = goes _ h
+outcome-along held words others accepted file goes ending.BadLine out h =
     (λ line. h.0 (accepted.1 line), h.1)
-outcome-along held words others accepted goes ending.CannotRead out h = (accepted.0 h.0, h.1)
-outcome-along held words others accepted goes (ending.Refused at code) out h = (goes _ h.0, h.1)
-outcome-along held words others accepted goes (ending.Stopped s) out h = (goes _ h.0, h.1)
-outcome-along held words others accepted goes ending.Limited out h = goes _ h
-outcome-along held words others accepted goes ending.CannotWrite out (text, is, begins) =
+outcome-along held words others accepted file goes ending.CannotRead out h = (file h.0, h.1)
+outcome-along held words others accepted file goes (ending.Refused at code) out h = (goes _ h.0, h.1)
+outcome-along held words others accepted file goes (ending.Stopped s) out h = (goes _ h.0, h.1)
+outcome-along held words others accepted file goes ending.Limited out h = goes _ h
+outcome-along held words others accepted file goes ending.CannotWrite out (text, is, begins) =
     (text, goes _ is, begins)
-outcome-along held words others accepted goes ending.NoMemory out (inl empty) = inl empty
-outcome-along held words others accepted goes ending.NoMemory out (inr (text, is, begins)) =
+outcome-along held words others accepted file goes ending.NoMemory out (inl empty) = inl empty
+outcome-along held words others accepted file goes ending.NoMemory out (inr (text, is, begins)) =
     inr (text, goes _ is, begins)
+
+-- the same of a command about a file
+pub ends_of_file : (held : Option NamedFiles) (words : List (List ℕ)) (request : Request)
+    (bytes : List ℕ) (e : Ending) (old new : Option (List ℕ)) → IsLine words request
+    → IsAboutFile request.command → HasPrefix held request.operand (most_bytes + 1) bytes
+    → EndsOn bytes request e old new → Ends held words e old new
+ends_of_file held words request bytes e old new line file prefix ends =
+    ends_of_report held words request bytes e old new line
+    (read_of_file request.command held request bytes file prefix) ends
+
+-- and of a command about a generated file
+pub ends_of_size : (held : Option NamedFiles) (words : List (List ℕ)) (request : Request)
+    (e : Ending) (old new : Option (List ℕ)) → IsLine words request
+    → request.command ≡ command.Generate → EndsOn (generated_text request.size) request e old new
+    → Ends held words e old new
+ends_of_size held words request e old new line is ends =
+    ends_of_report held words request (generated_text request.size) e old new line
+    (read_of_size request.command held request (generated_text request.size) is refl) ends
 
 -- the answers to the sections of a request, as the report on the bytes
 pub report_of_answers : (bytes : List ℕ) (request : Request) (v : Values) (sections : List Section)
@@ -284,6 +354,15 @@ ends_of_fault held words (line.Number place) out h = record {
   );
   gained = Appends-nil out;
 }
+ends_of_fault held words line.Size out h = record {
+  out = [];
+  outcome = (
+    λ accepted.
+        let e = line_without_fault words accepted.0 line.Size accepted.1 h in cc,
+    refl,
+  );
+  gained = Appends-nil out;
+}
 ends_of_fault held words line.Memory out h =
     record { out = []; outcome = inl refl; gained = Appends-nil out }
 
@@ -291,10 +370,12 @@ pub fault_is_no_read : (f : LineFault) → ending_of_fault f ≡ ending.CannotRe
 fault_is_no_read line.Words e = cc
 fault_is_no_read line.Command e = cc
 fault_is_no_read (line.Number place) e = cc
+fault_is_no_read line.Size e = cc
 fault_is_no_read line.Memory e = cc
 
 pub fault_is_no_write : (f : LineFault) → ending_of_fault f ≡ ending.CannotWrite → ⊥
 fault_is_no_write line.Words e = cc
 fault_is_no_write line.Command e = cc
 fault_is_no_write (line.Number place) e = cc
+fault_is_no_write line.Size e = cc
 fault_is_no_write line.Memory e = cc

@@ -1,5 +1,5 @@
 -- What is answered of the syntactic monoid of a language is answered of the language.
-use Rattle.std.proofs.Common.{◌≡◌, ℕ, Bool, List, Option, Some, None, length, sym, subst}
+use Rattle.std.proofs.Common.{◌≡◌, ℕ, Bool, List, Option, Some, None, sym, subst}
 use Rattle.std.specs.Prelude.{IfSome}
 use Rattle.language_theory.specs.Languages.{HaveSameWords}
 use Rattle.language_theory.specs.Nerode.{MinimalAutomaton, IsMinimal, accepted}
@@ -23,6 +23,9 @@ use Rattle.piecewise_testable.specs.Witness.{IsWitness, IsRTrivialAnswer}
 use Rattle.piecewise_testable.specs.Commuting.{IsCommutativeAnswer}
 use Rattle.piecewise_testable.proofs.Agreeing.{answer_on_agrees, commutative_answer_agrees}
 use Rattle.piecewise_testable.proofs.Answering.{piecewise_answer_agrees}
+use Rattle.star_free.specs.declared.answer.SfAnswer.{SfAnswer}
+use Rattle.star_free.specs.Answer.{IsStarFreeAnswer, Tells}
+use Rattle.star_free.proofs.OneList.{answer_in_both, tells_in_both}
 use Rattle.report_text.specs.PiecewiseSection.{IsWitnessOver, IsPiecewiseOver, IsRTrivialOver}
 use Rattle.report_text.specs.CommutativeSection.{IsCommutativeOver}
 use Rattle.synmon_top.specs.Sections.{IsTableWithin}
@@ -48,6 +51,18 @@ module _ (k : ℕ) (L : List ℕ → Type 0) (m : SyntacticMonoid) (is : IsSynta
   piecewise_of_recognised most last a h =
       piecewise_answer_agrees k (recognised m) L recognised_words most last a
       (subst (λ (n : ℕ). IsPiecewiseAnswer n (recognised m) most last a) letters h)
+
+  pub star_free_of_recognised : (most : ℕ) (has : Bool) (a : SfAnswer)
+      → IsStarFreeAnswer m.graphs.right.letters (recognised m) m most has a
+      → IsStarFreeAnswer k L m most has a
+  star_free_of_recognised most has a h =
+      answer_in_both k (recognised m) L recognised_words m most has a
+      (subst (λ (n : ℕ). IsStarFreeAnswer n (recognised m) m most has a) letters h)
+
+  pub star_free_tells : (a : SfAnswer) → Tells m.graphs.right.letters (recognised m) a → Tells k L a
+  star_free_tells a h =
+      tells_in_both k (recognised m) L recognised_words a
+      (subst (λ (n : ℕ). Tells n (recognised m) a) letters h)
 
   pub r_trivial_of_recognised : (a : Option PtWitness)
       → IsRTrivialAnswer m.graphs.right.letters (recognised m) a → IsRTrivialAnswer k L a

@@ -1,12 +1,14 @@
 -- When a run answers with each status.
 use Rattle.std.proofs.Common.{◌≡◌, ◌⊎◌, ℕ, List, Option, Some, None, inl, inr, refl, sym, ap, ◌∙◌, subst, arith}
-use Rattle.syn_outside.specs.NamedFiles.{NamedFiles, bytes_of, Lacks}
+use Rattle.syn_outside.specs.NamedFiles.{NamedFiles, Lacks}
+use Rattle.command_line.specs.declared.commands.Command.{Command}
+use Rattle.command_line.specs.declared.commands.Command.TheVariants as command
 use Rattle.command_line.specs.declared.request.Request.{Request}
-use Rattle.command_line.specs.Line.{IsLine, IsAccepted}
+use Rattle.command_line.specs.Line.{IsAccepted}
 use Rattle.command_line.proofs.Lines.{one_request}
-use Rattle.synmon_top.specs.Reports.{Verdict, said, stopped, refused}
-use Rattle.synmon_top.specs.Outcome.{IsDue, Outcome, Ends, IsTold, Runs, status_of, line_of}
-use Rattle.synmon_top.specs.Causes.{HasVerdict, IsLacking, IsOrNoMemory, IsStatus}
+use Rattle.synmon_top.specs.Reports.{Verdict}
+use Rattle.synmon_top.specs.Outcome.{IsAboutFile, Outcome, Ends, status_of}
+use Rattle.synmon_top.specs.Causes.{AreToldFor, HasVerdict, IsLacking, IsOrNoMemory, IsStatus}
 use Rattle.synmon_top.proofs.Deciding.{ending_of, IsText, due_ends}
 use Rattle.synmon_top.specs.declared.ending.Ending.{Ending}
 use Rattle.synmon_top.specs.declared.ending.Ending.TheVariants as ending
@@ -63,7 +65,7 @@ without_line : (held : Option NamedFiles) (words : List (List ℕ)) (e : Ending)
     → Outcome held words e out → ¬ IsAccepted words → IsOrNoMemory 2 (status_of e)
 without_line held words ending.Whole out h none = absurd (none (h.request, h.line))
 without_line held words ending.BadLine out h none = inl refl
-without_line held words ending.CannotRead out h none = absurd (none h.0)
+without_line held words ending.CannotRead out h none = absurd (none (h.0.request, h.0.line))
 without_line held words (ending.Refused at code) out h none = absurd (none (h.0.request, h.0.line))
 without_line held words (ending.Stopped s) out h none = absurd (none (h.0.request, h.0.line))
 without_line held words ending.Limited out h none = absurd (none (h.request, h.line))
@@ -76,16 +78,21 @@ pub no_line_told : (held : Option NamedFiles) (words : List (List ℕ)) (e : End
     → ¬ IsAccepted words → IsOrNoMemory 2 (status_of e)
 no_line_told held words e old new ends none = without_line held words e ends.out ends.outcome none
 
+-- files that lack a name tell no bytes of it
+lacking_untold : (c : Command) (held : Option NamedFiles) (r : Request) (bytes : List ℕ)
+    → IsAboutFile c → Lacks held r.operand → ¬ AreToldFor c held r bytes
+lacking_untold command.Generate held r bytes file lacks told = absurd file
+lacking_untold other None r bytes file lacks told = told
+lacking_untold other (Some files) r bytes file lacks told =
+    let both : Some bytes ≡ None = sym told ∙ lacks in cc
+
 -- a file on which a verdict is due is not lacking
 not_lacking : (held : Option NamedFiles) (words : List (List ℕ)) (v : Verdict)
     → HasVerdict held words v → ¬ IsLacking held words
 not_lacking held words v has lacking =
-    let none : bytes_of lacking.request.operand has.files ≡ None =
-    subst (λ h. Lacks h lacking.request.operand) has.told lacking.lacks in
-    let same = one_request words has.due.request lacking.request has.due.line lacking.line in
-    let both : Some has.due.bytes ≡ None = sym has.due.about
-    ∙ ap (λ (r : Request). bytes_of r.operand has.files) same ∙ none in
-    cc
+    let same = one_request words has.request lacking.request has.line lacking.line in
+    lacking_untold lacking.request.command held lacking.request has.bytes lacking.file lacking.lacks
+    (subst (λ (r : Request). AreToldFor r.command held r has.bytes) same has.told)
 
 -- a verdict that is due decides the status, where no device that it needs fails
 pub verdict_told : (held : Option NamedFiles) (words : List (List ℕ)) (v : Verdict) (e : Ending)
@@ -95,8 +102,7 @@ pub verdict_told : (held : Option NamedFiles) (words : List (List ℕ)) (v : Ver
     → HasVerdict held words v → ¬ Risen → (IsText v → ¬ Cut)
     → IsOrNoMemory (status_of (ending_of v)) (status_of e)
 verdict_told held words v e old new Risen Cut ends unread unwritten has calm steady =
-    by (due_ends has.files words v e ends.out has.due
-    (subst (λ h. Outcome h words e ends.out) has.told ends.outcome))
+    by (due_ends held words v e ends.out has ends.outcome)
   where
     reading : e ≡ ending.CannotRead → Risen ⊎ IsLacking held words → ⊥
     reading is (inl risen) = calm risen

@@ -1,16 +1,14 @@
 -- The table of products of a language's syntactic monoid, and its text.
-use Rattle.std.proofs.Common.{◌≡◌, ◌<◌, ◌≤◌, ℕ, zero, suc, Bool, List, ◌++◌, Option, Some, None, length, refl, ap, sym, ◌∙◌, subst, arith}
+use Rattle.std.proofs.Common.{◌≡◌, ◌<◌, ℕ, zero, suc, List, ◌++◌, Option, Some, None, refl, ap, sym, ◌∙◌, subst, arith}
 use Rattle.std.specs.Prelude.{codes, is_none}
 use Rattle.std.specs.Fmt.{decimal}
 use Rattle.language_theory.specs.Congruence.{Syntactic}
 use Rattle.language_theory.specs.ShortlexGraph.{SameNode}
 use Rattle.language_theory.specs.Representatives.{AreRepresentatives}
 use Rattle.language_theory.proofs.Congruences.{syntactic_congruence}
-use Rattle.monoid_theory.specs.Products.{IsProduct}
 use Rattle.monoid_theory.proofs.Places.{product_is_one}
-use Rattle.cayley_tables.specs.CayleyGraphs.{CayleyGraphs}
 use Rattle.cayley_tables.proofs.AgreeingGraphs.{graphs_agree, agreeing_product, graphs_are_cayley}
-use Rattle.parallel_table.specs.ProductTables.{ProductTable, IsTableOf, cell}
+use Rattle.parallel_table.specs.ProductTables.{ProductTable, cell}
 use Rattle.syntactic_monoid.specs.SyntacticMonoid.{SyntacticMonoid, IsSyntacticMonoid}
 use Rattle.report_text.specs.Texts.{texts_below, separated, gap_before}
 use Rattle.report_text.specs.TableSection.{table_text, products_text, section_text}

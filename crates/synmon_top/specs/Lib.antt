@@ -3,3 +3,4 @@ pub mod Answers
 pub mod Reports
 pub mod Outcome
 pub mod Causes
+pub mod Headline

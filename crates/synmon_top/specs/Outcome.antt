@@ -6,6 +6,9 @@ use Rattle.language_theory.specs.Words.{IsPrefix}
 use Rattle.syn_outside.specs.Counts.{Rose}
 use Rattle.syn_outside.specs.NamedFiles.{NamedFiles, bytes_of, HasPrefix}
 use Rattle.automaton_file.specs.FileText.{most_bytes}
+use Rattle.generated_file.specs.Generated.{generated_text}
+use Rattle.command_line.specs.declared.commands.Command.{Command}
+use Rattle.command_line.specs.declared.commands.Command.TheVariants as command
 use Rattle.command_line.specs.declared.fault.LineFault.{LineFault}
 use Rattle.command_line.specs.declared.fault.LineFault.TheVariants as line
 use Rattle.command_line.specs.declared.request.Request.{Request}
@@ -45,10 +48,32 @@ line_of ending.Limited = []
 line_of ending.CannotWrite = codes "synmon: cannot write\n"
 line_of ending.NoMemory = codes "synmon: out of memory\n"
 
--- the bytes that a request is about: where the files are told, those of its operand's name
+-- the command is about a file, and not about a generated one
+abbrev pub IsAboutFile : Command → Type 0
+IsAboutFile command.Generate = ⊥
+IsAboutFile other = ⊤
+
+-- the bytes that a request is about: for `generate` those of the generated file of its size, and for
+-- each other command, where the files are told, those of its operand's name
+abbrev pub AreBytesFor : Command → Option NamedFiles → Request → List ℕ → Type 0
+AreBytesFor command.Generate held request bytes = bytes ≡ generated_text request.size
+AreBytesFor other None request bytes = ⊤
+AreBytesFor other (Some files) request bytes = bytes_of request.operand files ≡ Some bytes
+
 abbrev pub AreBytesOf : Option NamedFiles → Request → List ℕ → Type 0
-AreBytesOf None request bytes = ⊤
-AreBytesOf (Some files) request bytes = bytes_of request.operand files ≡ Some bytes
+AreBytesOf held request bytes = AreBytesFor request.command held request bytes
+
+-- the bytes that were read for a request: for `generate` those of the generated file of its size,
+-- and for each other command as many of those of its operand's name as a run reads
+abbrev pub AreReadFor : Command → Option NamedFiles → Request → List ℕ → Type 0
+AreReadFor command.Generate held request bytes = bytes ≡ generated_text request.size
+AreReadFor other held request bytes = HasPrefix held request.operand (most_bytes + 1) bytes
+
+-- the words are a line whose command is about a file
+pub record AsksForFile (words : List (List ℕ)) : Type 0 where
+  pub request : Request
+  pub line : IsLine words request
+  pub file : IsAboutFile request.command
 
 -- the words are a line, and this is the verdict on the bytes that it is about
 pub record IsDue (held : Option NamedFiles) (words : List (List ℕ)) (verdict : Verdict) : Type 0
@@ -68,7 +93,7 @@ abbrev pub Outcome : Option NamedFiles → List (List ℕ) → Ending → List �
 Outcome held words ending.Whole out =
     IsDue held words (said (record { text = out; limited = false }))
 Outcome held words ending.BadLine out = (¬ IsAccepted words) × (out ≡ [])
-Outcome held words ending.CannotRead out = IsAccepted words × (out ≡ [])
+Outcome held words ending.CannotRead out = AsksForFile words × (out ≡ [])
 Outcome held words (ending.Refused at code) out = IsDue held words (refused at code) × (out ≡ [])
 Outcome held words (ending.Stopped stop) out = IsDue held words (stopped stop) × (out ≡ [])
 Outcome held words ending.Limited out =
@@ -81,6 +106,7 @@ abbrev pub ending_of_fault : LineFault → Ending
 ending_of_fault line.Words = ending.BadLine
 ending_of_fault line.Command = ending.BadLine
 ending_of_fault (line.Number place) = ending.BadLine
+ending_of_fault line.Size = ending.BadLine
 ending_of_fault line.Memory = ending.NoMemory
 
 -- the endings that the words and the bytes decide: those that no device and no want of memory
@@ -128,5 +154,5 @@ pub record EndsOn (bytes : List ℕ) (request : Request) (end : Ending)
     (old new : Option (List ℕ)) : Type 0 where
   pub out : List ℕ
   pub outcome : (held : Option NamedFiles) (words : List (List ℕ)) → IsLine words request
-      → HasPrefix held request.operand (most_bytes + 1) bytes → Outcome held words end out
+      → AreReadFor request.command held request bytes → Outcome held words end out
   pub gained : Appends old new out

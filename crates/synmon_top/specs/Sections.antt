@@ -1,5 +1,5 @@
 -- The sections of a report: which sections a command prints, and what each says about a language.
-use Rattle.std.specs.Prelude.{◌≡◌, ◌<◌, ◌≤◌, ℕ, Bool, true, false, List, [], ◌∷◌, Option, Some, None, is_none, IsTrue, ◌↔◌, ⊤, length}
+use Rattle.std.specs.Prelude.{◌||◌, ◌≡◌, ◌<◌, ◌≤◌, ℕ, Bool, false, List, [], ◌∷◌, Option, Some, None, is_none, IsTrue, ◌↔◌, ⊤, length}
 use Rattle.std.specs.List.{flat_map, list_any}
 use Rattle.language_theory.specs.Words.{word_at}
 use Rattle.language_theory.specs.Automaton.{is_marked}
@@ -16,11 +16,16 @@ use Rattle.command_line.specs.declared.commands.Command.TheVariants as command
 use Rattle.command_line.specs.declared.request.Request.{Request}
 use Rattle.report_text.specs.AutomatonSection.{automaton_text}
 use Rattle.report_text.specs.MonoidSection.{monoid_text}
-use Rattle.report_text.specs.GreenSection.{marked, green_text}
+use Rattle.report_text.specs.declared.summary_section.Counts.{Counts}
+use Rattle.report_text.specs.SummarySection.{summary_text}
+use Rattle.report_text.specs.GreenSection.{marked, green_text, marks_below}
+use Rattle.report_text.specs.StarFreeSection.{star_free_text, is_star_free_limit}
 use Rattle.report_text.specs.PiecewiseSection.{piecewise_text, is_piecewise_limit, r_trivial_text}
 use Rattle.report_text.specs.LocalSection.{local_text, is_local_limit}
 use Rattle.report_text.specs.CommutativeSection.{commutative_text}
 use Rattle.report_text.specs.TableSection.{section_text}
+use Rattle.star_free.specs.declared.answer.SfAnswer.{SfAnswer}
+use Rattle.star_free.specs.Answer.{IsStarFreeAnswer, Tells as TellsStarFree}
 use Rattle.locally_testable.specs.declared.answer.LtAnswer.{LtAnswer}
 use Rattle.locally_testable.specs.Answer.{IsLocalAnswer, Tells}
 use Rattle.piecewise_testable.specs.declared.answer.PtAnswer.{PtAnswer}
@@ -32,8 +37,9 @@ use Rattle.piecewise_testable.specs.Commuting.{IsCommutativeAnswer}
 use Rattle.synmon_top.specs.declared.sections.Section.{Section}
 use Rattle.synmon_top.specs.declared.sections.Section.TheVariants as section
 
--- the numbers within which the sections answer
+-- the size of a generated file, and the numbers within which the sections answer
 pub record Limits : Type 0 where
+  pub size : ℕ
   pub subsets : ℕ
   pub elements : ℕ
   pub table : ℕ
@@ -44,6 +50,7 @@ pub record Limits : Type 0 where
 -- those of a request; its number of workers is none of them
 abbrev pub limits_of : Request → Limits
 limits_of r = record {
+  size = r.size;
   subsets = r.subsets;
   elements = r.elements;
   table = r.table;
@@ -58,11 +65,16 @@ abbrev pub sections_of : Command → List Section
 sections_of command.Automaton = section.Automaton ∷ []
 sections_of command.Monoid = section.Monoid ∷ []
 sections_of command.Green = section.Green ∷ []
+sections_of command.StarFree = section.StarFree ∷ []
 sections_of command.Piecewise = section.Piecewise ∷ []
 sections_of command.Local = section.Local ∷ []
 sections_of command.RTrivial = section.RTrivial ∷ []
 sections_of command.Commutative = section.Commutative ∷ []
 sections_of command.Table = section.Table ∷ []
+sections_of command.Report =
+    section.Automaton ∷ section.Monoid ∷ section.Green ∷ section.StarFree ∷ section.Piecewise
+    ∷ section.Local ∷ section.RTrivial ∷ section.Commutative ∷ []
+sections_of command.Generate = section.Summary ∷ []
 
 -- what a section says: its text, and whether the answer that it tells is a limit
 pub record Said : Type 0 where
@@ -105,6 +117,20 @@ pub record IsGreenSection (signs : List ℕ) (L : List ℕ → Type 0) (said : S
       idempotents boxes
   pub text : said.text ≡ green_text signs (marked monoid.graphs.words idempotents) boxes
   pub unlimited : said.limited ≡ false
+
+-- The section `starfree`: a star-free list of the language, words whose powers never settle, or the
+-- limit that was met; a table of products is there where there are no more elements than its limit.
+pub record IsStarFreeSection (limits : Limits) (signs : List ℕ) (L : List ℕ → Type 0)
+    (said : Said) : Type 0 where
+  pub monoid : SyntacticMonoid
+  pub syntactic : IsSyntacticMonoid (length signs) L monoid
+  pub has_table : Bool
+  pub table : IsTrue has_table ↔ (length monoid.graphs.words ≤ limits.table)
+  pub answer : SfAnswer
+  pub answered : IsStarFreeAnswer (length signs) L monoid limits.nodes has_table answer
+  pub tells : TellsStarFree (length signs) L answer
+  pub text : said.text ≡ star_free_text signs limits.table limits.nodes answer
+  pub limited : said.limited ≡ is_star_free_limit answer
 
 -- The section `piecewise`: the least length of subwords that tells the language, words that no
 -- length tells apart, or the limit that was met.
@@ -168,17 +194,60 @@ pub record IsTableSection (most : ℕ) (signs : List ℕ) (L : List ℕ → Type
     pub text : said.text ≡ section_text table most
     pub limited : said.limited ≡ is_none table
 
+-- the counts of a language: the states of its minimal automaton, the elements of its syntactic
+-- monoid, the rules, the boxes and the idempotents
+pub record AreCounts (size : ℕ) (signs : List ℕ) (L : List ℕ → Type 0) (counts : Counts) : Type 0
+  where
+    pub generated : counts.size ≡ size
+    pub automaton : MinimalAutomaton
+    pub minimal : IsMinimal (length signs) L automaton
+    pub states : counts.states ≡ automaton.graph.size
+    pub monoid : SyntacticMonoid
+    pub syntactic : IsSyntacticMonoid (length signs) L monoid
+    pub elements : counts.elements ≡ length monoid.graphs.words
+    pub list : List (List ℕ × ℕ)
+    pub presentation : AreRules (length signs) (Syntactic (length signs) L) monoid.graphs.words list
+    pub rules : counts.rules ≡ length list
+    pub marks : List Bool
+    pub diagram : List (List (List (List ℕ)))
+    pub egg_boxes : AreBoxesFor (length signs) (Syntactic (length signs) L) monoid.graphs.words
+        marks diagram
+    pub boxes : counts.boxes ≡ length diagram
+    pub idempotents : counts.idempotents ≡ marks_below marks (length monoid.graphs.words)
+
+-- The section `summary`: the size of the generated file, the counts of its language, and the first
+-- line each of five sections.
+pub record IsSummarySection (limits : Limits) (signs : List ℕ) (L : List ℕ → Type 0)
+    (said : Said) : Type 0 where
+  pub counts : Counts
+  pub counted : AreCounts limits.size signs L counts
+  pub star_free : Said
+  pub star_free_said : IsStarFreeSection limits signs L star_free
+  pub piecewise : Said
+  pub piecewise_said : IsPiecewiseSection limits signs L piecewise
+  pub local : Said
+  pub local_said : IsLocalSection limits signs L local
+  pub r_trivial : Said
+  pub r_trivial_said : IsRTrivialSection signs L r_trivial
+  pub commutative : Said
+  pub commutative_said : IsCommutativeSection signs L commutative
+  pub text : said.text ≡ summary_text counts star_free.text piecewise.text local.text
+      r_trivial.text commutative.text
+  pub limited : said.limited ≡ (star_free.limited || (piecewise.limited || local.limited))
+
 -- The table of sections: what each says about the language L over the letters with these signs,
 -- within the limits.
 abbrev pub IsSection : Section → Limits → List ℕ → (List ℕ → Type 0) → Said → Type 0
 IsSection section.Automaton limits signs L said = IsAutomatonSection signs L said
 IsSection section.Monoid limits signs L said = IsMonoidSection signs L said
 IsSection section.Green limits signs L said = IsGreenSection signs L said
+IsSection section.StarFree limits signs L said = IsStarFreeSection limits signs L said
 IsSection section.Piecewise limits signs L said = IsPiecewiseSection limits signs L said
 IsSection section.Local limits signs L said = IsLocalSection limits signs L said
 IsSection section.RTrivial limits signs L said = IsRTrivialSection signs L said
 IsSection section.Commutative limits signs L said = IsCommutativeSection signs L said
 IsSection section.Table limits signs L said = IsTableSection limits.table signs L said
+IsSection section.Summary limits signs L said = IsSummarySection limits signs L said
 
 -- what each of these sections says, one after another
 abbrev pub AreSections : List Section → Limits → List ℕ → (List ℕ → Type 0) → List Said → Type 0

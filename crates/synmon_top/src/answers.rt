@@ -1,15 +1,17 @@
 //! What is computed for a request, and how its sections are said.
 ghost use Rattle.std.specs.Prelude.{◌≡◌, ◌≤◌, false, length, map, All, IfOk};
 ghost use Rattle.report_text.specs.Saying.{Says, channel};
+ghost use Rattle.report_text.specs.StarFreeSection.{IsStarFreeOver};
 ghost use Rattle.automaton_file.specs.FileText.{language_of};
 ghost use Rattle.synmon_top.specs.Sections.{IsSection, AreSections};
-ghost use Rattle.synmon_top.specs.Answers.{AreValues, HasNeeds, IsSayable, ArePresented, AreBoxed, HasGreen, values_of, monoid_said, green_said, said_of, said_of_all};
+ghost use Rattle.synmon_top.specs.Answers.{AreValues, HasNeeds, IsSayable, ArePresented, AreBoxed, HasGreen, values_of, monoid_said, green_said, star_free_said, summary_said, said_of, said_of_all};
 
 use crate::questions::{
-    answer_commutative, answer_local, answer_piecewise, answer_r_trivial, is_local_limit,
-    is_piecewise_limit,
+    answer_commutative, answer_local, answer_piecewise, answer_r_trivial, answer_star_free,
+    is_local_limit, is_piecewise_limit, is_star_free_limit,
 };
 use crate::sections::Section;
+use crate::summary::{answer_summary, is_summary_limit};
 use automaton_file::Source;
 use command_line::Request;
 use green_relations::{Boxes, Green, boxes_of};
@@ -18,9 +20,10 @@ use parallel_table::Table;
 use piecewise_testable::{CWitness, PtAnswer, PtWitness};
 use presentation::{Rules, rules_of};
 use report_text::{
-    Buffer, SayFault, say_automaton, say_commutative, say_green, say_local, say_monoid,
-    say_piecewise, say_r_trivial, say_table,
+    Buffer, Counts, SayFault, Summary, say_automaton, say_commutative, say_green, say_local,
+    say_monoid, say_piecewise, say_r_trivial, say_star_free, say_summary, say_table,
 };
+use star_free::SfAnswer;
 use std::alloc::Global;
 use subset_minimal::MinDfa;
 use syn_outside::Sink;
@@ -53,6 +56,8 @@ pub enum Answer {
     Monoid(Rules),
     /// The egg-box diagram of the syntactic monoid.
     Green(Boxes),
+    /// A star-free list of the language, words whose powers never settle, or a limit.
+    StarFree(SfAnswer),
     /// From which length on subwords tell the language, words that no length tells apart, or a limit.
     Piecewise(PtAnswer),
     /// From which length on factors tell the language, words that no length tells apart, or a limit.
@@ -63,6 +68,8 @@ pub enum Answer {
     Commutative(Option<CWitness>),
     /// The products of all elements, or that there are more than the limit.
     Table,
+    /// The counts of a generated file's language, and the answers of which the first lines are said.
+    Summary(Counts, Summary),
 }
 
 impl Answer {
@@ -76,9 +83,11 @@ impl Answer {
             | Answer::Green(_)
             | Answer::RTrivial(_)
             | Answer::Commutative(_) => false,
+            Answer::StarFree(answer) => is_star_free_limit(answer),
             Answer::Piecewise(answer) => is_piecewise_limit(answer),
             Answer::Local(answer) => is_local_limit(answer),
             Answer::Table => values.table.is_none(),
+            Answer::Summary(_, summary) => is_summary_limit(summary),
         }
     }
 }
@@ -118,11 +127,13 @@ fn answer_section(alloc: Global, section: Section, values: &Values<'_>) -> Resul
         Section::Automaton => Ok(Answer::Automaton),
         Section::Monoid => answer_monoid(alloc, values),
         Section::Green => answer_green(alloc, values),
-        Section::Piecewise => answer_piecewise(alloc, values),
-        Section::Local => answer_local(alloc, values),
-        Section::RTrivial => answer_r_trivial(alloc, values),
-        Section::Commutative => answer_commutative(alloc, values),
+        Section::StarFree => Ok(Answer::StarFree(answer_star_free(alloc, values)?)),
+        Section::Piecewise => Ok(Answer::Piecewise(answer_piecewise(alloc, values)?)),
+        Section::Local => Ok(Answer::Local(answer_local(alloc, values)?)),
+        Section::RTrivial => Ok(Answer::RTrivial(answer_r_trivial(alloc, values)?)),
+        Section::Commutative => Ok(Answer::Commutative(answer_commutative(alloc, values)?)),
         Section::Table => Ok(Answer::Table),
+        Section::Summary => answer_summary(alloc, values),
     }
 }
 
@@ -214,6 +225,7 @@ fn say_answer<S: Sink>(
         ),
         Answer::Monoid(rules) => say_rules_of(alloc, sink, buffer, values, rules),
         Answer::Green(boxes) => say_boxes_of(alloc, sink, buffer, values, boxes),
+        Answer::StarFree(answer) => say_star_free_of(alloc, sink, buffer, values, answer),
         Answer::Piecewise(answer) => {
             say_piecewise(alloc, sink, buffer, &values.source.alphabet, answer)
         }
@@ -234,6 +246,9 @@ fn say_answer<S: Sink>(
             values.table.as_ref(),
             values.request.table,
         ),
+        Answer::Summary(counts, summary) => {
+            say_summary_of(alloc, sink, buffer, values, counts, summary)
+        }
     }
 }
 
@@ -274,4 +289,58 @@ fn say_boxes_of<S: Sink>(
     let green = values.green.as_ref().unwrap();
     let alphabet = &values.source.alphabet;
     say_green(alloc, sink, buffer, alphabet, cayley, green, boxes)
+}
+
+/// Says the section `starfree`. Conditions: the letters of the answer are those of the source, and the buffer is not
+/// broken.
+fn say_star_free_of<S: Sink>(
+    alloc: Global,
+    sink: &mut S,
+    buffer: &mut Buffer,
+    values: &Values<'_>,
+    answer: &SfAnswer,
+) -> Result<(), SayFault>
+    requires sayable { IsStarFreeOver (length (values_of values.now).source.letters) answer.now }
+    requires whole { buffer.old.broken ≡ false }
+    ensures { Says (channel (S.written sink.old) (S.faults sink.old) buffer.old) result
+        (channel (S.written sink.new) (S.faults sink.new) buffer.new)
+        (star_free_said (values_of values.now) answer.now).text }
+{
+    let alphabet = &values.source.alphabet;
+    let limits = values.request;
+    say_star_free(
+        alloc,
+        sink,
+        buffer,
+        alphabet,
+        answer,
+        limits.table,
+        limits.nodes,
+    )
+}
+
+/// Says the section `summary`. Condition: the buffer is not broken.
+fn say_summary_of<S: Sink>(
+    alloc: Global,
+    sink: &mut S,
+    buffer: &mut Buffer,
+    values: &Values<'_>,
+    counts: &Counts,
+    summary: &Summary,
+) -> Result<(), SayFault>
+    requires whole { buffer.old.broken ≡ false }
+    ensures { Says (channel (S.written sink.old) (S.faults sink.old) buffer.old) result
+        (channel (S.written sink.new) (S.faults sink.new) buffer.new)
+        (summary_said (values_of values.now) counts.now summary.now).text }
+{
+    let limits = values.request;
+    say_summary(
+        alloc,
+        sink,
+        buffer,
+        counts,
+        summary,
+        limits.table,
+        limits.nodes,
+    )
 }

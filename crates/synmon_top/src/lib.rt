@@ -8,6 +8,7 @@ mod questions;
 mod reporting;
 mod running;
 mod sections;
+mod summary;
 #[cfg(test)]
 mod tests;
 #[cfg(test)]

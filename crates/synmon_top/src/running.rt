@@ -1,18 +1,22 @@
 //! A run of the program, from its words to what it wrote.
-ghost use Rattle.std.specs.Prelude.{◌≡◌, ◌⊎◌, ◌≤◌, ℕ, List, true, false, map, string_bytes};
+ghost use Rattle.std.specs.Prelude.{◌≡◌, ◌≢◌, ◌⊎◌, ◌≤◌, ℕ, List, true, false, map, string_bytes, IsTrue};
 ghost use Rattle.syn_outside.specs.Counts.{Rose};
-ghost use Rattle.command_line.specs.Line.{IsAccepted};
+ghost use Rattle.command_line.specs.Line.{IsAccepted, IsInRange};
+ghost use Rattle.generated_file.specs.Generated.{generated_text};
 ghost use Rattle.synmon_top.specs.Reports.{said, stopped, refused};
-ghost use Rattle.synmon_top.specs.Causes.{HasVerdict, IsLacking, IsOrNoMemory, IsStatus};
-ghost use Rattle.synmon_top.specs.Outcome.{Ends, Runs, ending_of_fault};
+ghost use Rattle.synmon_top.specs.Causes.{AsksToGenerate, HasVerdict, IsLacking, IsOrNoMemory, IsStatus};
+ghost use Rattle.synmon_top.specs.Outcome.{Ends, EndsOn, IsAboutFile, Runs, ending_of_fault};
+ghost use Rattle.synmon_top.specs.Headline.{Headline};
 ghost use Rattle.synmon_top.specs.declared.ending.Stop.{Stop};
 
 use crate::ending::{Ending, tell};
 use crate::reporting::report;
-use command_line::{LineFault, read_line};
+use command_line::{Command, LineFault, Request, read_line};
+use generated_file::generate_text;
 use std::alloc::Global;
 use std::thread::Threads;
 use syn_outside::{Files, Gate, ReadFault, Sink, read_all};
+use syn_words::Memory;
 
 /// The most bytes that a file may have.
 const LIMIT: u32 = 1_048_576;
@@ -22,7 +26,8 @@ const LIMIT: u32 = 1_048_576;
 ///
 /// 0: the whole text is on `out`. 2: the words are no line. 3: the file was not read. 4: the file spells no source. 5:
 /// a count passed its limit, and nothing is on `out`, or the whole text is on `out` and a section of it tells a limit.
-/// 6: the text was not written to its end. 7: the system gave no memory. A failure of `errs` changes no status.
+/// 6: the text was not written to its end. 7: the system gave no memory. A failure of `errs` changes no status. For
+/// `generate` no file is read.
 pub fn run<R: Threads + Sync, F: Files, O: Sink, E: Sink, G: Gate + Sync>(
     rt: &R,
     alloc: Global,
@@ -35,10 +40,15 @@ pub fn run<R: Threads + Sync, F: Files, O: Sink, E: Sink, G: Gate + Sync>(
     ensures outcome { Runs (F.held files.old) (map string_bytes words.now) result
         (O.written out.old) (O.written out.new) (E.written errs.old) (E.written errs.new)
         (E.faults errs.old) (E.faults errs.new) }
+    ensures headline { Headline (F.held files.old) (map string_bytes words.now) result
+        (O.written out.old) (O.written out.new) }
     ensures status { IsStatus result }
     ensures bad_line { result ≡ 2 → ¬ IsAccepted (map string_bytes words.now) }
     ensures no_line { (¬ IsAccepted (map string_bytes words.now)) → IsOrNoMemory 2 result }
     ensures untouched { (¬ IsAccepted (map string_bytes words.now))
+        → (F.ready files.new ≡ F.ready files.old) × (F.left files.new ≡ F.left files.old)
+        × (F.faults files.new ≡ F.faults files.old) }
+    ensures generated { AsksToGenerate (map string_bytes words.now)
         → (F.ready files.new ≡ F.ready files.old) × (F.left files.new ≡ F.left files.old)
         × (F.faults files.new ≡ F.faults files.old) }
     ensures cannot_read { result ≡ 3 → Rose (F.faults files.old) (F.faults files.new)
@@ -82,6 +92,9 @@ fn answer<R: Threads + Sync, F: Files, O: Sink, G: Gate + Sync>(
     ensures untouched { (¬ IsAccepted (map string_bytes words.now))
         → (F.ready files.new ≡ F.ready files.old) × (F.left files.new ≡ F.left files.old)
         × (F.faults files.new ≡ F.faults files.old) }
+    ensures generated { AsksToGenerate (map string_bytes words.now)
+        → (F.ready files.new ≡ F.ready files.old) × (F.left files.new ≡ F.left files.old)
+        × (F.faults files.new ≡ F.faults files.old) }
     ensures cannot_read { result ≡ Ending.CannotRead
         → Rose (F.faults files.old) (F.faults files.new)
         ⊎ IsLacking (F.held files.old) (map string_bytes words.now) }
@@ -95,6 +108,9 @@ fn answer<R: Threads + Sync, F: Files, O: Sink, G: Gate + Sync>(
         Ok(request) => request,
         Err(fault) => return without_request(fault),
     };
+    if is_generated(request.command) {
+        return report_on_generated(rt, alloc, &request, out, gate);
+    }
     match read_all(alloc, files, request.operand.text(), LIMIT) {
         Ok(bytes) => report(rt, alloc, bytes.as_slice(), &request, out, gate),
         Err(ReadFault::Missing) => Ending::CannotRead,
@@ -103,12 +119,57 @@ fn answer<R: Threads + Sync, F: Files, O: Sink, G: Gate + Sync>(
     }
 }
 
+/// Whether a command is about a generated file.
+fn is_generated(command: Command) -> bool
+    ensures generated { IsTrue result → command ≡ Command.Generate }
+    ensures file { (result ≡ false) → IsAboutFile command }
+{
+    match command {
+        Command::Generate => true,
+        Command::Automaton
+        | Command::Monoid
+        | Command::Green
+        | Command::StarFree
+        | Command::Piecewise
+        | Command::Local
+        | Command::RTrivial
+        | Command::Commutative
+        | Command::Table
+        | Command::Report => false,
+    }
+}
+
+/// Writes what a request asks for about the generated file of its size. Conditions: the command is about a generated
+/// file, and the numbers of the request are in their ranges.
+fn report_on_generated<R: Threads + Sync, O: Sink, G: Gate + Sync>(
+    rt: &R,
+    alloc: Global,
+    request: &Request,
+    out: &mut O,
+    gate: &G,
+) -> Ending
+    requires generated { request.now.command ≡ Command.Generate }
+    requires range { IsInRange request.now }
+    ensures ends { EndsOn (generated_text request.now.size) request.now result
+        (O.written out.old) (O.written out.new) }
+    ensures read { result ≢ Ending.CannotRead }
+    ensures failed { result ≡ Ending.CannotWrite → Rose (O.faults out.old) (O.faults out.new) }
+    ensures count { O.faults out.old ≤ O.faults out.new }
+{
+    match generate_text(alloc, request.size) {
+        Ok(bytes) => report(rt, alloc, bytes.as_slice(), request, out, gate),
+        Err(Memory) => Ending::NoMemory,
+    }
+}
+
 /// The ending where the words ask for nothing.
 fn without_request(fault: LineFault) -> Ending
     ensures { result ≡ ending_of_fault fault }
 {
     match fault {
-        LineFault::Words | LineFault::Command | LineFault::Number { .. } => Ending::BadLine,
+        LineFault::Words | LineFault::Command | LineFault::Number { .. } | LineFault::Size => {
+            Ending::BadLine
+        }
         LineFault::Memory => Ending::NoMemory,
     }
 }

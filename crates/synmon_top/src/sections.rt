@@ -14,6 +14,8 @@ pub enum Section {
     Monoid,
     /// Green's classes of the syntactic monoid, as an egg-box diagram.
     Green,
+    /// Whether the language is star-free, with a star-free expression.
+    StarFree,
     /// Whether short subwords tell the language, and from which length on.
     Piecewise,
     /// Whether short factors tell the language, and from which length on.
@@ -24,6 +26,8 @@ pub enum Section {
     Commutative,
     /// The products of all elements.
     Table,
+    /// The counts of a generated file's language, and the first lines of the answers.
+    Summary,
 }
 
 /// The sections that a command prints, in their order.
@@ -34,11 +38,23 @@ pub(crate) fn sections_of(command: Command) -> &'static [Section]
         Command::Automaton => &[Section::Automaton],
         Command::Monoid => &[Section::Monoid],
         Command::Green => &[Section::Green],
+        Command::StarFree => &[Section::StarFree],
         Command::Piecewise => &[Section::Piecewise],
         Command::Local => &[Section::Local],
         Command::RTrivial => &[Section::RTrivial],
         Command::Commutative => &[Section::Commutative],
         Command::Table => &[Section::Table],
+        Command::Report => &[
+            Section::Automaton,
+            Section::Monoid,
+            Section::Green,
+            Section::StarFree,
+            Section::Piecewise,
+            Section::Local,
+            Section::RTrivial,
+            Section::Commutative,
+        ],
+        Command::Generate => &[Section::Summary],
     }
 }
 
@@ -50,11 +66,14 @@ pub(crate) fn needs_elements(command: Command) -> bool
         Command::Automaton => false,
         Command::Monoid
         | Command::Green
+        | Command::StarFree
         | Command::Piecewise
         | Command::Local
         | Command::RTrivial
         | Command::Commutative
-        | Command::Table => true,
+        | Command::Table
+        | Command::Report
+        | Command::Generate => true,
     }
 }
 
@@ -69,7 +88,8 @@ pub(crate) fn needs_table(command: Command) -> bool
         | Command::Piecewise
         | Command::RTrivial
         | Command::Commutative => false,
-        Command::Local | Command::Table => true,
+        Command::StarFree | Command::Local | Command::Table | Command::Report | Command::Generate =>
+            true,
     }
 }
 
@@ -80,9 +100,14 @@ pub(crate) fn needs_green(command: Command) -> bool
     match command {
         Command::Automaton
         | Command::Monoid
+        | Command::StarFree
         | Command::Local
         | Command::Commutative
         | Command::Table => false,
-        Command::Green | Command::Piecewise | Command::RTrivial => true,
+        Command::Green
+        | Command::Piecewise
+        | Command::RTrivial
+        | Command::Report
+        | Command::Generate => true,
     }
 }

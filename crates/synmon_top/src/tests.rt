@@ -20,6 +20,13 @@ const AB_STAR_MONOID: &str =
 const AB_STAR_GREEN: &str =
     "green\nboxes 3\nbox 0 rows 1 columns 1 size 1\n1*\nbox 1 rows 2 columns 2 size 1\na | ab*\nba* | b\nbox 2 rows 1 columns 1 size 1\naa*\nidempotents 4\n";
 
+const AB_STAR_LIST: &str =
+    "starfree yes\nnodes 24\n0 none\n1 not 0\n2 eps\n3 letter a\n4 letter b\n5 cat 1 3\n6 cat 5 1\n7 not 6\n8 cat 7 4\n9 cat 8 4\n10 cat 3 1\n11 or 10 2\n12 cat 3 4\n13 cat 3 9\n14 cat 11 3\n15 cat 14 11\n16 not 15\n17 and 11 16\n18 cat 17 13\n19 cat 18 17\n20 not 19\n21 and 17 20\n22 cat 21 12\n23 or 2 22\nroot 23\n";
+
+/// All sections but the table.
+const AB_STAR_REPORT: &str =
+    "automaton\nalphabet ab\nstates 3\n0 1 in 1 2\n1 a out 2 0\n2 b out 2 2\nmonoid\nelements 6\n0 1 in right 1 2 left 1 2\n1 a out right 3 4 left 3 5\n2 b out right 5 3 left 4 3\n3 aa out right 3 3 left 3 3\n4 ab in right 1 3 left 3 2\n5 ba out right 3 2 left 1 3\nrules 6\nbb aa\naaa aa\naab aa\naba a\nbaa aa\nbab b\ngreen\nboxes 3\nbox 0 rows 1 columns 1 size 1\n1*\nbox 1 rows 2 columns 2 size 1\na | ab*\nba* | b\nbox 2 rows 1 columns 1 size 1\naa*\nidempotents 4\nstarfree yes\nnodes 24\n0 none\n1 not 0\n2 eps\n3 letter a\n4 letter b\n5 cat 1 3\n6 cat 5 1\n7 not 6\n8 cat 7 4\n9 cat 8 4\n10 cat 3 1\n11 or 10 2\n12 cat 3 4\n13 cat 3 9\n14 cat 11 3\n15 cat 14 11\n16 not 15\n17 and 11 16\n18 cat 17 13\n19 cat 18 17\n20 not 19\n21 and 17 20\n22 cat 21 12\n23 or 2 22\nroot 23\npiecewise no right\nu 1\ns a\nletter b\ny a\nv 1\nfirst out\nlocal yes 2\nrtrivial no\nu 1\ns a\nletter b\ny a\nv 1\nfirst out\ncommutative no\nletters a b\nu 1\nv 1\nfirst in\n";
+
 const AB_STAR_TABLE: &str =
     "table 6\n0 1 2 3 4 5\n1 3 4 3 3 1\n2 5 3 3 2 3\n3 3 3 3 3 3\n4 1 3 3 4 3\n5 3 2 3 3 5\n";
 
@@ -113,7 +120,34 @@ const STOPPED: Row = Row {
 };
 
 /// Runs that write the whole text.
-const TEXTS: [Row; 25] = [
+const TEXTS: [Row; 30] = [
+    Row {
+        words: &["starfree", "--nodes", "60", "name"],
+        out: AB_STAR_LIST,
+        ..GOOD
+    },
+    Row {
+        words: &["starfree", "name"],
+        file: EVEN_AS,
+        out: "starfree no\nu 1\nx a\nv 1\nindex 0\nperiod 2\nfirst in\n",
+        ..GOOD
+    },
+    Row {
+        words: &["report", "name"],
+        out: AB_STAR_REPORT,
+        ..GOOD
+    },
+    Row {
+        words: &["report", "--workers", "7", "name"],
+        file: FIVE_SETS,
+        out: AB_STAR_REPORT,
+        ..GOOD
+    },
+    Row {
+        words: &["generate", "2"],
+        out: "generate 2\nstates 2\nelements 4\nrules 3\nboxes 2\nidempotents 3\nstarfree no\npiecewise no right\nlocal no repeat\nrtrivial no\ncommutative no\n",
+        ..GOOD
+    },
     Row {
         words: &["piecewise", "name"],
         out: "piecewise no right\nu 1\ns a\nletter b\ny a\nv 1\nfirst out\n",
@@ -244,7 +278,22 @@ const TEXTS: [Row; 25] = [
 ];
 
 /// Runs that pass a limit, before a section is made or in one.
-const STOPS: [Row; 10] = [
+const STOPS: [Row; 13] = [
+    Row {
+        words: &["starfree", "--nodes", "59", "name"],
+        out: "starfree limit nodes 59\n",
+        ..STOPPED
+    },
+    Row {
+        words: &["starfree", "--table", "5", "name"],
+        out: "starfree limit table 5\n",
+        ..STOPPED
+    },
+    Row {
+        words: &["generate", "--table", "3", "2"],
+        out: "generate 2\nstates 2\nelements 4\nrules 3\nboxes 2\nidempotents 3\nstarfree no\npiecewise no right\nlocal limit table 3\nrtrivial no\ncommutative no\n",
+        ..STOPPED
+    },
     Row {
         words: &["local", "--table", "5", "name"],
         out: "local limit table 5\n",
@@ -303,7 +352,15 @@ const STOPS: [Row; 10] = [
 ];
 
 /// Runs on words that are no line.
-const BAD_LINES: [Row; 14] = [
+const BAD_LINES: [Row; 16] = [
+    Row {
+        words: &["generate", "1"],
+        ..BAD_LINE
+    },
+    Row {
+        words: &["generate", "1001"],
+        ..BAD_LINE
+    },
     Row {
         words: &[],
         ..BAD_LINE

@@ -1,9 +1,10 @@
-use Rattle.std.proofs.Common.{◌≡◌, ◌∙◌, ℕ, List, Some, sym, ap, map, Global, refl, subst}
+use Rattle.std.proofs.Common.{◌≡◌, ◌∙◌, ℕ, List, Some, sym, ap, map, Global, refl, subst, get_or}
 use Rattle.std.specs.Prelude.{string_bytes, codes}
 use Rattle.std.proofs.lemmas.Result.{err_from_is_err_and}
 use Rattle.clap.specs.Words.{Row, first_of, found_of, rows_of}
+use Rattle.command_line.specs.Tables.{command_word}
 use Rattle.command_line.specs.Parsing.{rows_of_line}
-use Rattle.command_line.specs.Line.{IsFaultOf, IsFirstBad, IsBadNumber}
+use Rattle.command_line.specs.Line.{IsFaultOf, IsFirstBad, IsBadNumber, IsBadSize, AreNumbersIn}
 use Rattle.command_line.specs.declared.fault.LineFault.{LineFault}
 use Rattle.command_line.proofs.reading.read_line.Goals as goal
 
@@ -42,4 +43,30 @@ returns-in_err-numbers-clause-fault c =
         second = rw (← given) (sym c.in-Some-value_of.ensures);
       };
       first = rw (← given) bad.2;
+    }))
+
+pub returns-in_err-size-clause-fault : goal.returns-in_err-size-clause-fault
+returns-in_err-size-clause-fault c =
+    let given : rows_of (found_of c.in_ok-matches.matches)
+    ≡ rows_of_line (map (string_bytes {Z = Global}) c.args.words.now) =
+    c.in_ok-matches.ensures.found in
+    let numbers : AreNumbersIn (rows_of_line (map (string_bytes {Z = Global}) c.args.words.now))
+    c.in_ok-numbers.numbers =
+    rw (← given) c.in_ok-numbers.ensures.numbers in
+    let bad = c.in_err-size.ensures.fault in
+    let p = err_from_is_err_and c.from_residual-in_err-size.result
+    c.from_residual-in_err-size.ensures.1 in
+    let P : LineFault
+    → Type 0 = λ fault. IsFaultOf (map (string_bytes {Z = Global}) c.args.words.now) fault in
+    rw (p.1, p.2) (subst P (sym bad.0) (record {
+      operand = c.in-Some-value_of.operand.now;
+      taken = record {
+        faultless = c.in_ok-matches.ensures.taken;
+        first =
+            rw (← given) (sym c.in-Some.ensures
+            ∙ ap Some (c.in-Some-command_of.ensures.some ∙ ap command_word bad.1));
+        second = rw (← given) (sym c.in-Some-value_of.ensures);
+      };
+      numbers = λ place h. (get_or c.in_ok-numbers.numbers place 0, numbers place h);
+      bad = bad.2;
     }))

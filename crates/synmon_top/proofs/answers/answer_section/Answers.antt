@@ -1,6 +1,6 @@
 use Rattle.std.proofs.Common.{length, refl, sym, subst, rules}
 use Rattle.automaton_file.specs.FileText.{language_of}
-use Rattle.synmon_top.specs.Answers.{HasNeeds, HasTable, values_of, said_of}
+use Rattle.synmon_top.specs.Answers.{HasTable, values_of, said_of}
 use Rattle.synmon_top.specs.Sections.{IsSection, IsTableSection}
 use Rattle.synmon_top.specs.declared.sections.Section.{Section}
 use Rattle.synmon_top.specs.declared.answers.Answer.TheVariants as answer

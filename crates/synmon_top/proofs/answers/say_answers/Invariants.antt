@@ -1,4 +1,4 @@
-use Rattle.std.proofs.Common.{map, drop}
+use Rattle.std.proofs.Common.{drop}
 use Rattle.report_text.specs.Saying.{channel, IsSaidUpTo}
 use Rattle.synmon_top.specs.Answers.{values_of, said_of_all}
 use Rattle.synmon_top.proofs.answers.say_answers.Given as goal

@@ -1,8 +1,5 @@
-use Rattle.std.proofs.Common.{◌≡◌, length, Some, refl, subst, rules}
-use Rattle.language_theory.specs.ShortlexGraph.{SameNode}
+use Rattle.std.proofs.Common.{◌≡◌, length, Some, refl, rules}
 use Rattle.automaton_file.specs.FileText.{language_of}
-use Rattle.green_relations.specs.GreenClasses.{GreenClasses, AreGreens}
-use Rattle.syntactic_monoid.specs.SyntacticMonoid.{SyntacticMonoid}
 use Rattle.synmon_top.specs.Answers.{values_of}
 use Rattle.synmon_top.proofs.Recognised.{commutative_of_recognised, commutative_over}
 use Rattle.synmon_top.proofs.questions.answer_commutative.Goals as goal

@@ -4,10 +4,8 @@ use Rattle.automaton_file.specs.FileText.{language_of}
 use Rattle.language_theory.specs.Nerode.{accepted}
 use Rattle.language_theory.specs.ShortlexGraph.{SameNode}
 use Rattle.parallel_table.specs.ProductTables.{ProductTable, IsTableOf}
-use Rattle.syntactic_monoid.specs.SyntacticMonoid.{SyntacticMonoid}
 use Rattle.locally_testable.specs.Answer.{IsLocalAnswer}
 use Rattle.locally_testable.proofs.Telling.{answer_tells}
-use Rattle.synmon_top.specs.Sections.{IsTableWithin}
 use Rattle.synmon_top.specs.Answers.{values_of}
 use Rattle.synmon_top.proofs.Recognised.{monoid_of_accepted, local_of_accepted, table_is_filled, table_of_needs}
 use Rattle.synmon_top.proofs.Locals.{local_over, table_within}

@@ -1,5 +1,4 @@
-use Rattle.std.proofs.Common.{◌≡◌, List, ℕ, Option, Some, refl, rules}
-use Rattle.std.specs.Prelude.{All}
+use Rattle.std.proofs.Common.{refl, rules}
 use Rattle.language_theory.specs.Congruence.{Syntactic}
 use Rattle.language_theory.specs.Nerode.{accepted}
 use Rattle.language_theory.specs.Representatives.{HasMoreClasses}
@@ -45,6 +44,7 @@ write_sections-requires-clause-values g c = record {
   some_level = c.requires.some_level;
   level = c.requires.level;
   pairs = c.requires.pairs;
+  nodes = c.requires.nodes;
   minimal = c.in-Ok-minimal_of.ensures.minimal;
   syntactic = λ m there.
       monoid_of_source (source_text c.in-Ok.source) c.in-Ok-minimal_of.dfa m

@@ -1,7 +1,5 @@
-use Rattle.std.proofs.Common.{◌≡◌, ◌∙◌, List, ℕ, refl, sym, ap, subst}
+use Rattle.std.proofs.Common.{◌∙◌, List, refl, sym, ap, subst}
 use Rattle.std.specs.Io.KnownBytes.{Appends}
-use Rattle.automaton_file.specs.FileText.{IsSource}
-use Rattle.synmon_top.specs.Reports.{IsWithin}
 use Rattle.synmon_top.specs.Answers.{Values, values_of, said_of_all}
 use Rattle.synmon_top.specs.Outcome.{IsGivenPrefix}
 use Rattle.synmon_top.specs.declared.answers.Answer.{Answer}

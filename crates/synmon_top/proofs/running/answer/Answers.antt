@@ -1,8 +1,10 @@
-use Rattle.std.proofs.Common.{◌∙◌, sym, subst, map, Global}
+use Rattle.std.proofs.Common.{◌∙◌, ◌+◌, sym, subst, map, rules, Global}
 use Rattle.std.specs.Prelude.{string_bytes}
+use Rattle.syn_outside.specs.NamedFiles.{HasPrefix}
+use Rattle.automaton_file.specs.FileText.{most_bytes}
 use Rattle.synmon_top.specs.Outcome.{Ends}
 use Rattle.synmon_top.specs.declared.ending.Ending.{Ending}
-use Rattle.synmon_top.proofs.Outcomes.{ends_of_fault, fault_is_no_read, fault_is_no_write}
+use Rattle.synmon_top.proofs.Outcomes.{ends_of_file, ends_of_fault, fault_is_no_read, fault_is_no_write}
 use Rattle.synmon_top.proofs.running.answer.Goals as goal
 
 pub returns-in-Err-clause-ends : goal.returns-in-Err-clause-ends
@@ -20,3 +22,12 @@ returns-in-Err-clause-cannot_read g c = λ e.
 pub returns-in-Err-clause-cannot_write : goal.returns-in-Err-clause-cannot_write
 returns-in-Err-clause-cannot_write g c = λ e.
     absurd (fault_is_no_write c.in-Err.fault (sym c.without_request.ensures ∙ e))
+
+pub returns-in-Ok-read_all-clause-ends : goal.returns-in-Ok-read_all-clause-ends
+returns-in-Ok-read_all-clause-ends g c =
+    let held = g.F.Files.held c.args.files.now in
+    let request = c.in-Ok.request in
+    let prefix : HasPrefix held request.operand (most_bytes + 1) c.as_slice.result.now =
+    search rules in
+    ends_of_file held _ request c.as_slice.result.now _ _ _ c.in-Ok.ensures.line
+    (c.is_generated.ensures.file c.if-is_generated.false) prefix c.report.ensures.ends

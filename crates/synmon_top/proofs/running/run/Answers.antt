@@ -1,8 +1,8 @@
-use Rattle.std.proofs.Common.{◌≡◌, ℕ, List, sym, subst, true, false}
-use Rattle.synmon_top.specs.Sections.{Said}
+use Rattle.std.proofs.Common.{sym, subst, true, false}
 use Rattle.synmon_top.specs.Reports.{said, stopped, refused}
 use Rattle.synmon_top.specs.Causes.{IsOrNoMemory}
 use Rattle.synmon_top.proofs.Statuses.{verdict_told}
+use Rattle.synmon_top.proofs.Truths.{headline}
 use Rattle.synmon_top.proofs.running.run.Goals as goal
 
 pub returns-clause-refused : goal.returns-clause-refused
@@ -32,3 +32,7 @@ returns-clause-limited g c = λ text has calm steady.
     (verdict_told _ _ (said (record { text = text; limited = true })) c.answer-ending.result _ _ _
     _ c.answer-ending.ensures.ends c.answer-ending.ensures.cannot_read
     c.answer-ending.ensures.cannot_write has calm (λ _. steady))
+
+pub returns-clause-headline : goal.returns-clause-headline
+returns-clause-headline g c =
+    headline _ _ c.answer-ending.result _ _ _ c.status.ensures c.answer-ending.ensures.ends

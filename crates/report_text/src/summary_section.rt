@@ -1,0 +1,187 @@
+//! The section `summary` of a report.
+ghost use Rattle.std.specs.Prelude.{◌≡◌, ◌++◌, ℕ, List, false, OnOk};
+ghost use Rattle.report_text.specs.Saying.{Says, channel};
+ghost use Rattle.report_text.specs.StarFreeSection.{star_free_text};
+ghost use Rattle.report_text.specs.PiecewiseSection.{piecewise_text, r_trivial_text};
+ghost use Rattle.report_text.specs.LocalSection.{local_text};
+ghost use Rattle.report_text.specs.CommutativeSection.{commutative_text};
+ghost use Rattle.report_text.specs.SummarySection.{counts_text, summary_text, heads_text, star_free_head, piecewise_head, local_head, r_trivial_head, commutative_head};
+
+use crate::buffer::{Buffer, SayFault, say_rendered};
+use crate::local_section::push_kind;
+use crate::piecewise_section::push_no_head;
+use crate::rendering::{push_bytes, push_number_line};
+use locally_testable::LtAnswer;
+use piecewise_testable::{CWitness, PtAnswer, PtWitness};
+use star_free::SfAnswer;
+use std::alloc::Global;
+use syn_outside::Sink;
+use syn_words::Memory;
+
+/// What a summary counts.
+#[derive(Clone, Copy)]
+pub struct Counts {
+    /// The size of the generated file.
+    pub size: u32,
+    /// The states of the minimal automaton.
+    pub states: u32,
+    /// The elements of the syntactic monoid.
+    pub elements: u32,
+    /// The rules that present the monoid.
+    pub rules: u32,
+    /// The boxes of the egg-box diagram.
+    pub boxes: u32,
+    /// The elements that are idempotent.
+    pub idempotents: u32,
+}
+
+/// The answers of the sections that a summary tells by their first lines.
+#[derive(Drop)]
+pub struct Summary {
+    pub star_free: SfAnswer,
+    pub piecewise: PtAnswer,
+    pub local: LtAnswer,
+    pub r_trivial: Option<PtWitness>,
+    pub commutative: Option<CWitness>,
+}
+
+/// Says the section `summary`: the counts, and the first line of each of five sections. `max_table` and `max_nodes` are
+/// the limits of the table and of the nodes.
+///
+/// No letter stands in these lines, so that they are the same for all letters. Condition: the buffer is not broken.
+/// `Write` comes only where the sink's count of faults rose in this call.
+pub fn say_summary<S: Sink>(
+    alloc: Global,
+    sink: &mut S,
+    buffer: &mut Buffer,
+    counts: &Counts,
+    answers: &Summary,
+    max_table: u32,
+    max_nodes: u32,
+) -> Result<(), SayFault>
+    requires whole { buffer.old.broken ≡ false }
+    ensures { (signs : List ℕ)
+        → Says (channel (S.written sink.old) (S.faults sink.old) buffer.old) result
+        (channel (S.written sink.new) (S.faults sink.new) buffer.new)
+        (summary_text counts.now
+        (star_free_text signs max_table max_nodes answers.now.star_free)
+        (piecewise_text signs answers.now.piecewise)
+        (local_text signs max_table answers.now.local)
+        (r_trivial_text signs answers.now.r_trivial)
+        (commutative_text signs answers.now.commutative)) }
+{
+    let mut text = Vec::new(alloc);
+    let rendered = push_summary(&mut text, counts, answers, max_table, max_nodes);
+    say_rendered(sink, buffer, rendered, &mut text)
+}
+
+/// Puts the section behind a text.
+fn push_summary(
+    text: &mut Vec<u8>,
+    counts: &Counts,
+    answers: &Summary,
+    max_table: u32,
+    max_nodes: u32,
+) -> Result<(), Memory>
+    ensures { OnOk result (text.new.items ≡ text.old.items
+        ++ (counts_text counts.now ++ heads_text max_table max_nodes answers.now)) }
+{
+    push_counts(text, counts)?;
+    push_heads(text, answers, max_table, max_nodes)
+}
+
+/// Puts the lines of the counts behind a text.
+fn push_counts(text: &mut Vec<u8>, counts: &Counts) -> Result<(), Memory>
+    ensures { OnOk result (text.new.items ≡ text.old.items ++ counts_text counts.now) }
+{
+    push_number_line(text, b"generate", counts.size)?;
+    push_number_line(text, b"states", counts.states)?;
+    push_number_line(text, b"elements", counts.elements)?;
+    push_number_line(text, b"rules", counts.rules)?;
+    push_number_line(text, b"boxes", counts.boxes)?;
+    push_number_line(text, b"idempotents", counts.idempotents)
+}
+
+/// Puts the first lines of the five sections behind a text.
+fn push_heads(
+    text: &mut Vec<u8>,
+    answers: &Summary,
+    max_table: u32,
+    max_nodes: u32,
+) -> Result<(), Memory>
+    ensures { OnOk result
+        (text.new.items ≡ text.old.items ++ heads_text max_table max_nodes answers.now) }
+{
+    push_star_free_head(text, &answers.star_free, max_table, max_nodes)?;
+    push_piecewise_head(text, &answers.piecewise)?;
+    push_local_head(text, &answers.local, max_table)?;
+    push_r_trivial_head(text, &answers.r_trivial)?;
+    push_commutative_head(text, &answers.commutative)
+}
+
+/// Puts the first line of the section `starfree` behind a text.
+fn push_star_free_head(
+    text: &mut Vec<u8>,
+    answer: &SfAnswer,
+    max_table: u32,
+    max_nodes: u32,
+) -> Result<(), Memory>
+    ensures { OnOk result
+        (text.new.items ≡ text.old.items ++ star_free_head max_table max_nodes answer.now) }
+{
+    match answer {
+        SfAnswer::Yes(_) => push_bytes(text, b"starfree yes\n"),
+        SfAnswer::No(_) => push_bytes(text, b"starfree no\n"),
+        SfAnswer::TableLimit => push_number_line(text, b"starfree limit table", max_table),
+        SfAnswer::Depth => push_bytes(text, b"starfree limit depth 400\n"),
+        SfAnswer::Nodes => push_number_line(text, b"starfree limit nodes", max_nodes),
+    }
+}
+
+/// Puts the first line of the section `piecewise` behind a text.
+fn push_piecewise_head(text: &mut Vec<u8>, answer: &PtAnswer) -> Result<(), Memory>
+    ensures { OnOk result (text.new.items ≡ text.old.items ++ piecewise_head answer.now) }
+{
+    match answer {
+        PtAnswer::Yes(level) => push_number_line(text, b"piecewise yes", *level),
+        PtAnswer::No(witness) => push_no_head(text, witness),
+        PtAnswer::Wide(level) => push_number_line(text, b"piecewise limit width", *level),
+        PtAnswer::Pairs(level) => push_number_line(text, b"piecewise limit pairs", *level),
+        PtAnswer::NoneTo(level) => push_number_line(text, b"piecewise limit level", *level),
+    }
+}
+
+/// Puts the first line of the section `local` behind a text.
+fn push_local_head(text: &mut Vec<u8>, answer: &LtAnswer, max_table: u32) -> Result<(), Memory>
+    ensures { OnOk result (text.new.items ≡ text.old.items ++ local_head max_table answer.now) }
+{
+    match answer {
+        LtAnswer::Yes(level) => push_number_line(text, b"local yes", *level),
+        LtAnswer::No(witness) => push_kind(text, witness.kind),
+        LtAnswer::TableLimit => push_number_line(text, b"local limit table", max_table),
+        LtAnswer::WorkLimit => push_bytes(text, b"local limit work 200000000\n"),
+        LtAnswer::Wide(level) => push_number_line(text, b"local limit width", *level),
+        LtAnswer::Pairs(level) => push_number_line(text, b"local limit pairs", *level),
+        LtAnswer::NoneTo(level) => push_number_line(text, b"local limit level", *level),
+    }
+}
+
+/// Puts the first line of the section `rtrivial` behind a text.
+fn push_r_trivial_head(text: &mut Vec<u8>, answer: &Option<PtWitness>) -> Result<(), Memory>
+    ensures { OnOk result (text.new.items ≡ text.old.items ++ r_trivial_head answer.now) }
+{
+    match answer {
+        None => push_bytes(text, b"rtrivial yes\n"),
+        Some(_) => push_bytes(text, b"rtrivial no\n"),
+    }
+}
+
+/// Puts the first line of the section `commutative` behind a text.
+fn push_commutative_head(text: &mut Vec<u8>, answer: &Option<CWitness>) -> Result<(), Memory>
+    ensures { OnOk result (text.new.items ≡ text.old.items ++ commutative_head answer.now) }
+{
+    match answer {
+        None => push_bytes(text, b"commutative yes\n"),
+        Some(_) => push_bytes(text, b"commutative no\n"),
+    }
+}
