@@ -10,7 +10,7 @@ ghost use Rattle.star_free_theory.specs.StarFree.{SfNode, IsStarFreeList};
 ghost use Rattle.star_free_theory.specs.Instance.{Among, room, value};
 ghost use Rattle.star_free_theory.specs.Construction.{Algebra, IsAlgebra, Task, count_from, done, nodes, treat_within, construction, DenotesFinals};
 ghost use Rattle.star_free_theory.specs.Treating.{IsBegun, IsFitted, IsTreated};
-ghost use Rattle.star_free_theory.specs.Examples.{ab_star_algebra, size_and_root};
+ghost use Rattle.star_free_theory.specs.Examples.{ab_star_algebra, ab_star_first, ab_star_second, ab_star_whole, nodes_of, size_and_root};
 
 use language_theory::language::Relation;
 
@@ -72,9 +72,15 @@ pub fn aperiodic_congruences_have_algebras<R: Relation>()
         → IsPlaceOf R.same words w (value product 0 image w) }
 {}
 
-/// The list for (ab)* has 60 nodes, of which the last is the root, and a limit of 59 is met.
+/// The list for (ab)* has 60 nodes, of which the last is the root, and a limit of 59 is met. The first instance, of b
+/// alone, gives its elements 1, b and aa the nodes 2, 4 and 9; the second one gives a and aa the nodes 21 and 37; and so
+/// the elements get the nodes 2, 38, 48, 57, 46 and 58.
 pub fn ab_star_has_sixty_nodes()
     ensures enough { size_and_root (construction (Some 60) 400 2 ab_star_algebra (0 ∷ 4 ∷ []))
         ≡ (60, 59) }
     ensures few { construction (Some 59) 400 2 ab_star_algebra (0 ∷ 4 ∷ []) ≡ nodes }
+    ensures first { nodes_of (0 ∷ 2 ∷ 3 ∷ []) ab_star_first ≡ 2 ∷ 4 ∷ 9 ∷ [] }
+    ensures second { nodes_of (1 ∷ 3 ∷ []) ab_star_second ≡ 21 ∷ 37 ∷ [] }
+    ensures elements { nodes_of (0 ∷ 1 ∷ 2 ∷ 3 ∷ 4 ∷ 5 ∷ []) ab_star_whole
+        ≡ 2 ∷ 38 ∷ 48 ∷ 57 ∷ 46 ∷ 58 ∷ [] }
 {}
