@@ -1,9 +1,6 @@
 -- Paths of automata: words put together, lists of states, the states that a word reaches.
-use Rattle.std.proofs.Common.{◌≡◌, ℕ, zero, suc, ◌+◌, ◌<◌, ◌⊎◌, inl, inr, ◌↔◌, Bool, true, false, cond, ◌&&◌, ◌||◌, ◌==◌, IsTrue, List, [], ◌∷◌, ◌++◌, map, filter, length, slice_index, Contains, refl, sym, subst, arith}
-use Rattle.std.specs.List.{list_any}
-use Rattle.std.proofs.lemmas.Bool.{both_ways, eq-eqb, eqb-true}
-use Rattle.std.proofs.lemmas.List.Elements.{Contains-append_right}
-use Rattle.language_theory.specs.Automaton.{Automaton, is_final, is_initial, is_step, has_step, targets_among, targets_of, IsTarget, AcceptsFrom, Accepts, Leads, IsReached, SameSubset}
+use Rattle.std.proofs.Common.{◌≡◌, ℕ, zero, suc, ◌+◌, ◌<◌, ◌⊎◌, inl, inr, ◌↔◌, IsTrue, List, [], ◌∷◌, ◌++◌, length, slice_index, refl, sym, subst, arith}
+use Rattle.language_theory.specs.Automaton.{Automaton, is_final, is_initial, has_step, IsTarget, AcceptsFrom, Accepts, Leads, IsReached, SameSubset}
 use Rattle.language_theory.specs.Runs.{IsRun}
 use Rattle.language_theory.specs.Congruence.{IsRightCongruence}
 use Rattle.language_theory.specs.Nerode.{Nerode}
@@ -208,34 +205,3 @@ pub accepts_or_not : (m : Automaton) (w : List ℕ) → Accepts m w ⊎ ¬ Accep
 accepts_or_not m w =
     next_or_not m (λ q. IsTrue (is_initial m q)) (AcceptsFrom m w)
     (λ q. true_or_not (is_initial m q)) (accepts_from_or_not m w)
-
-step_cases : (t u v : Bool) (s : ℕ × ℕ × ℕ) (rest : List (ℕ × ℕ × ℕ)) (q : ℕ) (more : Bool)
-    → (v ≡ true → s.2 ≡ q) → (s.2 ≡ q → v ≡ true) → IsTrue more ↔ Contains (map (λ s. s.2) rest) q
-    → IsTrue ((t && (u && v)) || more) ↔ Contains (map (λ s. s.2) (cond (t && u) (s ∷ rest) rest)) q
-step_cases false u v s rest q more f g h = h
-step_cases true false v s rest q more f g h = h
-step_cases true true v s rest q more f g h = (to v f, from v g)
-  where
-    to : (v : Bool) → (v ≡ true → s.2 ≡ q) → IsTrue (v || more)
-        → Contains (s.2 ∷ map (λ s. s.2) rest) q
-    to true f e = (0, omega arith, f refl)
-    to false f e = Contains-append_right (s.2 ∷ []) (map (λ s. s.2) rest) q (h.0 e)
-
-    from : (v : Bool) → (s.2 ≡ q → v ≡ true) → Contains (s.2 ∷ map (λ s. s.2) rest) q
-        → IsTrue (v || more)
-    from true g c = refl
-    from false g (zero, l, e) = absurd (both_ways false refl (g e))
-    from false g (suc i, l, e) = h.1 (i, omega arith, e)
-
--- the listed targets are those to which a step leads
-pub step_target : (p a q : ℕ) (steps : List (ℕ × ℕ × ℕ)) → IsTrue (list_any (is_step p a q) steps)
-    ↔ Contains (targets_among p a steps) q
-step_target p a q [] =
-    (λ e. absurd (both_ways false refl e), λ c. let (i, l, e) = c in absurd (omega arith))
-step_target p a q (s ∷ steps) =
-    step_cases (s.0 == p) (s.1 == a) (s.2 == q) s (filter (λ s. (s.0 == p) && (s.1 == a)) steps) q
-    (list_any (is_step p a q) steps) (eqb-true s.2 q) (eq-eqb s.2 q) (step_target p a q steps)
-
-pub target_listed : (m : Automaton) (p a q : ℕ) → IsTrue (has_step m p a q)
-    ↔ Contains (targets_of m p a) q
-target_listed m p a q = step_target p a q m.steps

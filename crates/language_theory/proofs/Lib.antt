@@ -13,3 +13,4 @@ pub mod Minimal
 pub mod AbStar
 pub mod Automata
 pub mod Deterministic
+pub mod StepLists

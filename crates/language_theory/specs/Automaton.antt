@@ -1,7 +1,7 @@
 -- Automata, which may have many initial states and many steps from one state by one letter (Pin:
 -- automata, paths, acceptance).
-use Rattle.std.specs.Prelude.{◌≡◌, ◌<◌, ◌&&◌, ◌==◌, ◌↔◌, ℕ, Bool, false, IsTrue, List, [], ◌∷◌, length, slice_index_or, map, filter, All}
-use Rattle.std.specs.List.{list_any}
+use Rattle.std.specs.Prelude.{◌≡◌, ◌<◌, ◌&&◌, ◌==◌, ◌↔◌, ℕ, Bool, false, IsTrue, List, [], ◌∷◌, length, slice_index_or, All, if◌then◌else◌}
+use Rattle.std.specs.List.{list_any, flat_map, range_with_len}
 use Rattle.language_theory.specs.Languages.{IsOnly}
 
 -- A step is a triple: from, letter, to. Whether a state is initial or final is told by its place in
@@ -29,12 +29,15 @@ is_step p a q s = (s.0 == p) && ((s.1 == a) && (s.2 == q))
 abbrev pub has_step : Automaton → ℕ → ℕ → ℕ → Bool
 has_step m p a q = list_any (is_step p a q) m.steps
 
--- the states to which the listed steps with the letter a lead from p, in the order of the steps
-abbrev pub targets_among : ℕ → ℕ → List (ℕ × ℕ × ℕ) → List ℕ
-targets_among p a steps = map (λ s. s.2) (filter (λ s. (s.0 == p) && (s.1 == a)) steps)
+-- the steps that pass a test, in the order of their states, letters and targets, each once
+unfoldable pub steps_where : ℕ → ℕ → (ℕ → ℕ → ℕ → Bool) → List (ℕ × ℕ × ℕ)
+steps_where states letters f =
+    flat_map (λ p. flat_map (λ a. flat_map (λ q. if f p a q then (p, a, q) ∷ [] else [])
+    (range_with_len 0 states)) (range_with_len 0 letters)) (range_with_len 0 states)
 
-abbrev pub targets_of : Automaton → ℕ → ℕ → List ℕ
-targets_of m p a = targets_among p a m.steps
+-- the steps stand in that order
+abbrev pub IsInOrder : Automaton → Type 0
+IsInOrder m = m.steps ≡ steps_where m.states m.letters (has_step m)
 
 -- the rows of marks have a place for each state, and the steps lead from states to states by
 -- letters below `letters`

@@ -1,9 +1,10 @@
 //! Laws of automata: paths, acceptance, deterministic automata.
 
-ghost use Rattle.std.specs.Prelude.{◌≡◌, ◌<◌, ◌++◌, ◌↔◌, ◌⊎◌, ℕ, IsTrue, List, Contains};
+ghost use Rattle.std.specs.Prelude.{◌≡◌, ◌<◌, ◌++◌, ◌↔◌, ◌⊎◌, ℕ, Bool, IsTrue, List};
+ghost use Rattle.std.specs.List.{list_any};
 ghost use Rattle.language_theory.specs.Words.{Over};
 ghost use Rattle.language_theory.specs.Languages.{IsOnly};
-ghost use Rattle.language_theory.specs.Automaton.{Automaton, Accepts, AcceptsFrom, Leads, IsReached, SameSubset, IsCompleteDeterministic, has_step, is_final, targets_of};
+ghost use Rattle.language_theory.specs.Automaton.{Automaton, Accepts, AcceptsFrom, Leads, IsReached, SameSubset, IsCompleteDeterministic, is_step, has_step, is_final, steps_where, IsInOrder};
 ghost use Rattle.language_theory.specs.Runs.{IsRun};
 ghost use Rattle.language_theory.specs.Congruence.{IsRightCongruence};
 ghost use Rattle.language_theory.specs.Nerode.{Nerode};
@@ -26,10 +27,15 @@ pub fn paths_are_joined()
         ↔ ((r : ℕ) × IsReached m w r × IsTrue (is_final m r)) }
 {}
 
-/// There is a step exactly where the target is listed.
-pub fn steps_are_listed()
-    ensures { (m : Automaton) (p a q : ℕ) → IsTrue (has_step m p a q)
-        ↔ Contains (targets_of m p a) q }
+/// The steps that pass a test, in their order, are those; and automata with the same states, letters and steps list
+/// them alike where both list them in that order.
+pub fn steps_are_listed_in_order()
+    ensures listed { (states letters : ℕ) (f : ℕ → ℕ → ℕ → Bool) (p a q : ℕ)
+        → IsTrue (list_any (is_step p a q) (steps_where states letters f))
+        ↔ ((p < states) × (a < letters) × (q < states) × IsTrue (f p a q)) }
+    ensures alike { (m n : Automaton) → IsInOrder m → IsInOrder n → m.states ≡ n.states
+        → m.letters ≡ n.letters → ((p a q : ℕ) → has_step m p a q ≡ has_step n p a q)
+        → m.steps ≡ n.steps }
 {}
 
 /// Each word is accepted or is not.

@@ -1,0 +1,8 @@
+use Rattle.language_theory.proofs.StepLists.{listed_where, in_order_alike}
+use Rattle.language_theory.proofs.paths.steps_are_listed_in_order.Goals as goal
+
+pub returns-clause-listed : goal.returns-clause-listed
+returns-clause-listed c = listed_where
+
+pub returns-clause-alike : goal.returns-clause-alike
+returns-clause-alike c = in_order_alike
