@@ -1,23 +1,21 @@
 -- Rows of marks and their words.
-use Rattle.std.proofs.Common.{◌≡◌, ◌≢◌, ℕ, ◌+◌, ◌-◌, ◌*◌, ◌/◌, ◌%◌, ◌^◌, ◌<◌, ◌≤◌, ◌==◌, ◌↔◌, inl, inr, Bool, true, false, IsTrue, List, cond, length, get_or, set, take, drop, replicate, bit_or, bit_and, w64, nat_eq, refl, ap, sym, subst, ◌∙◌, arith}
-use Rattle.std.specs.Int.{bit_at, trailing_zeros}
+use Rattle.std.proofs.Common.{◌≡◌, ◌≢◌, ℕ, ◌+◌, ◌*◌, ◌/◌, ◌%◌, ◌^◌, ◌<◌, ◌≤◌, ◌==◌, ◌↔◌, inl, inr, Bool, true, false, IsTrue, List, cond, length, get_or, set, take, drop, replicate, bit_or, bit_and, w64, nat_eq, refl, ap, sym, subst, ◌∙◌, arith}
+use Rattle.std.specs.Int.{bit_at}
 use Rattle.std.proofs.lemmas.Simd.{bit_mask_l, mask_l-mod}
-use Rattle.std.proofs.lemmas.Nat.Bits.{same_from_bits_below, bit_at_set_same, bit_at_set_other, bit_at-zero, bit_at_above, bit_at-trailing_zeros, shr_and_one}
-use Rattle.std.proofs.lemmas.Nat.{or_lt, shr_le, pow-add}
-use Rattle.std.proofs.Math.Nat.{div-div-eq-div-mul}
-use Rattle.std.proofs.lemmas.List.{ext_get_or, get_or-replicate, length-replicate, length-set, get_or-set_other, get_or-take, get_or-drop, get_or_past, length-take}
+use Rattle.std.proofs.lemmas.Nat.Bits.{same_from_bits_below, bit_at_set_same, bit_at_set_other, bit_at-zero, shr_and_one}
+use Rattle.std.proofs.lemmas.Nat.{or_lt}
+use Rattle.std.proofs.lemmas.List.{ext_get_or, get_or-replicate, length-replicate, length-set, get_or-set_other, get_or-take, get_or-drop, length-take}
 use Rattle.std.proofs.lemmas.Bool.Decides.{same_from_decides, Decides-eqb}
 use Rattle.std.proofs.lemmas.Slice.Eq.{slice_eq-Decides}
 use Rattle.std.specs.Cmp.{unsigned_Decides, booleans_Decides}
 use Rattle.std.specs.Cmp.Lexicographic.{pointwise}
 use Rattle.std.specs.Bool.{beq, Decides}
-use Rattle.std.proofs.lemmas.Bool.{cases_lt, both_ways}
+use Rattle.std.proofs.lemmas.Bool.{cases_lt}
 use Rattle.std.proofs.lemmas.List.FromFn.{length-map-range_with_len, get_or-map-range_with_len}
 use Rattle.std.proofs.lemmas.Grind.{common_steps, get_or-set_at}
 use Rattle.language_theory.proofs.Numbers.{equal_or_not}
 use Rattle.language_theory.specs.Automaton.{is_marked}
-use Rattle.number_set.specs.Marks.{mark_in, marks_in, word_at, packed, IsBare}
-use Rattle.std.specs.Cmp.{both_ways as equal_tests}
+use Rattle.number_set.specs.Marks.{mark_in, marks_in, word_at, packed}
 
 -- ---- places
 

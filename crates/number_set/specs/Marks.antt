@@ -1,5 +1,5 @@
 -- Sets of numbers below a size, as rows of marks, and how words of 64 marks hold them.
-use Rattle.std.specs.Prelude.{◌≡◌, ℕ, ◌+◌, ◌*◌, ◌/◌, ◌%◌, ◌<◌, ◌≤◌, ◌==◌, ◌^◌, Bool, false, cond, List, Option, Some, None, length, take, drop, map, slice_index, IsTrue}
+use Rattle.std.specs.Prelude.{◌≡◌, ℕ, ◌+◌, ◌*◌, ◌/◌, ◌%◌, ◌<◌, ◌≤◌, ◌==◌, ◌&&◌, ◌||◌, ◌^◌, Bool, false, cond, List, Option, Some, None, length, take, drop, map, slice_index, IsTrue}
 use Rattle.std.specs.List.{range_with_len}
 use Rattle.std.specs.Int.{bit_at}
 use Rattle.std.specs.Simd.Lanes.{mask_l}
@@ -48,6 +48,20 @@ IsNext marks from None = (q : ℕ) → from ≤ q → is_marked marks q ≡ fals
 abbrev pub IsWord : List Bool → ℕ → Option ℕ → Type 0
 IsWord marks place (Some w) = (64 * place < length marks) × (w ≡ word_at marks place)
 IsWord marks place None = length marks ≤ 64 * place
+
+-- the members of the third set are those of the first and those of the second
+pub record IsUnion (old other new : List Bool) : Type 0 where
+  pub long : length new ≡ length old
+  pub each : (p : ℕ) → is_marked new p ≡ (is_marked old p || is_marked other p)
+
+-- the members of the third set are those that the first and the second have in common
+pub record IsIntersection (old other new : List Bool) : Type 0 where
+  pub long : length new ≡ length old
+  pub each : (p : ℕ) → is_marked new p ≡ (is_marked old p && is_marked other p)
+
+-- some number is a member of both sets
+abbrev pub Meet : List Bool → List Bool → Type 0
+Meet marks other = (p : ℕ) × IsTrue (is_marked marks p) × IsTrue (is_marked other p)
 
 -- a walk over the members of a row of marks, in rising order, that has come to a number
 pub record Walk : Type 0 where

@@ -4,7 +4,7 @@ ghost use Rattle.std.specs.Bool.{beq};
 ghost use Rattle.std.specs.Cmp.Lexicographic.{pointwise, lists_per, lists_equiv};
 ghost use Rattle.std.proofs.Common.{rules};
 ghost use Rattle.language_theory.specs.Automaton.{is_marked};
-ghost use Rattle.number_set.specs.Marks.{IsWord, fed_words, same_fed};
+ghost use Rattle.number_set.specs.Marks.{IsWord, IsUnion, IsIntersection, Meet, fed_words, same_fed};
 
 use crate::members::Members;
 use std::alloc::Global;
@@ -94,6 +94,39 @@ impl NumberSet {
     {
         let place = (number / 64) as usize;
         self.words[place] = self.words[place] | (1 << (number % 64));
+    }
+
+    /// Puts the members of another set into this one too. Condition: its size is no more than this one's.
+    pub fn union_with(&mut self, other: &NumberSet)
+        requires { length other.now ≤ length self.old }
+        ensures { IsUnion self.old other.now self.new }
+    {
+        for place in 0..other.words.len() {
+            self.words[place] = self.words[place] | other.words[place];
+        }
+    }
+
+    /// Takes out the members that another set doesn't have. Condition: both have one size.
+    pub fn intersect_with(&mut self, other: &NumberSet)
+        requires { length other.now ≡ length self.old }
+        ensures { IsIntersection self.old other.now self.new }
+    {
+        for place in 0..self.words.len() {
+            self.words[place] = self.words[place] & other.words[place];
+        }
+    }
+
+    /// Whether two sets have a member in common. Condition: both have one size.
+    pub fn meets(&self, other: &NumberSet) -> bool
+        requires { length other.now ≡ length self.now }
+        ensures { IsTrue result ↔ Meet self.now other.now }
+    {
+        for place in 0..self.words.len() {
+            if self.words[place] & other.words[place] != 0 {
+                return true;
+            }
+        }
+        false
     }
 
     /// The set of the same size with no member.

@@ -1,4 +1,6 @@
 //! Worked examples.
+ghost use Rattle.std.specs.Prelude.{◌≡◌, length, IfOk};
+
 use crate::NumberSet;
 use std::alloc::Global;
 use std::test::Fail;
@@ -46,5 +48,51 @@ fn equals_sets_of_one_size(rt: HostRuntime) -> Result<(), Fail> {
         set == NumberSet::from_marks(rt.alloc(), &[false, true])?,
         false
     );
+    Ok(())
+}
+
+/// The set of a size with some members.
+fn having(alloc: Global, size: u32, numbers: &[u32]) -> Result<NumberSet, Memory>
+    ensures { IfOk result (λ s. length s ≡ size) }
+{
+    let mut set = NumberSet::empty(alloc, size)?;
+    for &number in numbers {
+        if number < set.size() {
+            set.insert(number);
+        }
+    }
+    Ok(set)
+}
+
+#[test]
+fn combines_sets(rt: HostRuntime) -> Result<(), Fail> {
+    let first = having(rt.alloc(), 130, &[0, 63, 128])?;
+    let second = having(rt.alloc(), 130, &[63, 64, 127, 129])?;
+    let mut set = first.copy()?;
+    set.union_with(&second);
+    assert_eq!(rt;
+        listed(rt.alloc(), &set)?.as_slice(),
+        [0, 63, 64, 127, 128, 129].as_slice()
+    );
+    let mut set = first.copy()?;
+    set.union_with(&having(rt.alloc(), 70, &[1, 64, 69])?);
+    assert_eq!(rt;
+        listed(rt.alloc(), &set)?.as_slice(),
+        [0, 1, 63, 64, 69, 128].as_slice()
+    );
+    set.union_with(&NumberSet::empty(rt.alloc(), 0)?);
+    assert_eq!(rt;
+        listed(rt.alloc(), &set)?.as_slice(),
+        [0, 1, 63, 64, 69, 128].as_slice()
+    );
+    let mut set = first.copy()?;
+    set.intersect_with(&second);
+    assert_eq!(rt; listed(rt.alloc(), &set)?.as_slice(), [63].as_slice());
+    assert_eq!(rt; first.meets(&second), true);
+    assert_eq!(rt;
+        second.meets(&having(rt.alloc(), 130, &[0, 62, 128])?),
+        false
+    );
+    assert_eq!(rt; second.meets(&having(rt.alloc(), 130, &[0, 129])?), true);
     Ok(())
 }

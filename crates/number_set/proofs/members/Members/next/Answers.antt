@@ -1,4 +1,4 @@
-use Rattle.std.proofs.Common.{◌<◌, ◌+◌, ◌*◌, ℕ, length, Some, None, w64, refl, arith, subst}
+use Rattle.std.proofs.Common.{◌+◌, ◌*◌, Some, None, w64, refl, arith, subst}
 use Rattle.std.specs.Int.{trailing_zeros}
 use Rattle.number_set.specs.Marks.{Walk, IsNext}
 use Rattle.number_set.proofs.Walking.{ahead_at_next, none_ahead, next_ahead, ahead_behind}

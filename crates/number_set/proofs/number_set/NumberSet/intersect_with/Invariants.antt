@@ -1,0 +1,8 @@
+use Rattle.std.proofs.Common.{◌≡◌, bit_and}
+use Rattle.number_set.proofs.Combining.{AreCombinedBelow}
+use Rattle.number_set.proofs.number_set.NumberSet.intersect_with.Given as goal
+
+abbrev pub invariant-loop-place : goal.invariant-loop-place
+invariant-loop-place l = (l.self-inside.size ≡ l.initial.self-inside.size)
+    × AreCombinedBelow bit_and l.initial.self-inside.words.items l.other-inside.words.items
+    l.self-inside.words.items l.place
