@@ -1,7 +1,7 @@
 -- The first fault at the next significant line, or behind it.
 use Rattle.std.proofs.Common.{◌≡◌, ◌≤◌, ℕ, ◌+◌, List, [], ◌∷◌, ◌++◌, length, sym, ap, ◌∙◌, subst, refl}
 use Rattle.std.specs.Prelude.{Bool, true, false, cond, nat_le, codes, Option, Some, None}
-use Rattle.syn_words.specs.Nfa.{with_final}
+use Rattle.automata.specs.Nfa.{with_final}
 use Rattle.language_theory.specs.Automaton.{Automaton}
 use Rattle.automaton_file.specs.declared.sources.Wrong.{Wrong}
 use Rattle.automaton_file.specs.declared.sources.Wrong.TheVariants as wrong

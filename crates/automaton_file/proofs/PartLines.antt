@@ -7,7 +7,7 @@ use Rattle.std.specs.List.{list_all, concat}
 use Rattle.std.proofs.lemmas.Bool.{ne_eqb, and_right}
 use Rattle.language_theory.specs.Automaton.{Automaton}
 use Rattle.syn_words.specs.Alphabet.{IsAlphabet}
-use Rattle.syn_words.specs.Nfa.{with_step}
+use Rattle.automata.specs.Nfa.{with_step}
 use Rattle.automaton_file.specs.declared.sources.Wrong.TheVariants as wrong
 use Rattle.automaton_file.specs.declared.parts.Mark.{Mark}
 use Rattle.automaton_file.specs.declared.parts.Mark.TheVariants.{Initial, Final}

@@ -6,7 +6,7 @@ use Rattle.std.proofs.lemmas.Bool.{leb-true, le-leb}
 use Rattle.std.proofs.lemmas.List.Elements.{All-head, All-tail, All-nil, All-cons, All-from_get_or}
 use Rattle.language_theory.specs.Automaton.{Automaton}
 use Rattle.syn_words.specs.Alphabet.{IsAlphabet}
-use Rattle.syn_words.specs.Nfa.{bare}
+use Rattle.automata.specs.Nfa.{bare}
 use Rattle.expression_theory.specs.Expression.{Tree}
 use Rattle.expression_theory.specs.Scan.{classes, SpellsTree}
 use Rattle.automaton_file.specs.declared.sources.Wrong.{Wrong}
@@ -251,8 +251,7 @@ automaton_read lines alphabet m h =
         (bare (state_count (fields h.body)) (length (letters_in h.letters)))
         (h.initial ∷ h.final ∷ h.steps)
     read =
-        one_spelled alphabet h.states h.initial h.final h.steps m _ h.is_alphabet.letters
-        h.is_body.few h.spelled
+        one_spelled alphabet h.states h.initial h.final h.steps m _ h.spelled
         (read_is_spelled alphabet h.states h.initial h.final h.steps h.is_alphabet.letters
         h.is_body.few h.is_initial h.is_final h.are_steps)
         ∙ ap (λ (a : List ℕ). automaton_of a (bare h.states (length a))

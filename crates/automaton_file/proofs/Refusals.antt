@@ -9,7 +9,7 @@ use Rattle.automaton_file.specs.LineText.{text_lines, fields, is_plain, is_signi
 use Rattle.automaton_file.specs.FileText.{most_bytes, unless, line_fault, part_fault, is_whole, is_expr, state_count, letters_in, body_fault, BodyText, OfAutomaton, OfExpression, SourceText, IsWrong, code_of, IsRefusal, too_long, bad_line, missing_part}
 use Rattle.automaton_file.specs.Parts.{Lines}
 use Rattle.automaton_file.specs.Reading.{IsRead, automaton_of, ReadsBody, ReadsSource, fault_else, first_fault}
-use Rattle.syn_words.specs.Nfa.{bare}
+use Rattle.automata.specs.Nfa.{bare}
 use Rattle.expression_theory.specs.Scan.{classes}
 use Rattle.expression_theory.proofs.Texts.{accepted_tree}
 use Rattle.automaton_file.proofs.Expressions.{test_accepted, expression_passes}

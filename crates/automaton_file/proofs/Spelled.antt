@@ -1,6 +1,6 @@
 -- The automaton that is read is the one that the lines spell.
-use Rattle.std.proofs.Common.{◌≡◌, ◌≢◌, ◌^◌, ◌<◌, ◌≤◌, ℕ, zero, suc, List, [], ◌∷◌, ◌++◌, length, drop, replicate, refl, sym, ap, ◌∙◌, arith, true, false, inl, inr, subst, ◌⊎◌}
-use Rattle.std.specs.Prelude.{Bool, IsTrue, Option, ◌&&◌, ◌||◌, ◌==◌, ◌↔◌, codes, slice_index, slice_set, All, if◌then◌else◌}
+use Rattle.std.proofs.Common.{◌≡◌, ◌≢◌, ◌^◌, ◌<◌, ◌≤◌, ℕ, zero, suc, List, [], ◌∷◌, length, drop, replicate, refl, sym, ap, ◌∙◌, arith, true, false, inl, inr, subst, ◌⊎◌}
+use Rattle.std.specs.Prelude.{Bool, IsTrue, Option, ◌&&◌, ◌||◌, ◌==◌, ◌↔◌, codes, slice_index, slice_set, All}
 use Rattle.std.specs.Option.{unwrap_or}
 use Rattle.std.specs.Fmt.{decimal}
 use Rattle.std.specs.List.{list_any, Any, AllZip}
@@ -9,13 +9,14 @@ use Rattle.std.proofs.lemmas.Bool.{and_parts, and_from, or_cases, or_left, or_ri
 use Rattle.std.proofs.lemmas.Fmt.{decimal_injective}
 use Rattle.std.proofs.lemmas.List.{same_lists, get_or-set_other, length-set, length-replicate, get_or-replicate, get_or_default}
 use Rattle.std.proofs.lemmas.Grind.{get_or-set_at}
-use Rattle.std.proofs.lemmas.List.Elements.{All-head, All-tail, All-nil, All-cons, All-push}
-use Rattle.language_theory.specs.Automaton.{Automaton, is_marked, is_step, has_step}
+use Rattle.std.proofs.lemmas.List.Elements.{All-head, All-tail, All-nil, All-cons}
+use Rattle.language_theory.specs.Automaton.{Automaton, IsAutomaton, IsInOrder, is_initial, is_final, is_marked, is_step, has_step}
+use Rattle.language_theory.proofs.StepLists.{in_order_alike}
 use Rattle.syn_words.specs.Alphabet.{IsAlphabet}
-use Rattle.syn_words.specs.Nfa.{bare, with_initial, with_final, with_step}
-use Rattle.syn_words.proofs.Steps.{adding_a_step}
+use Rattle.automata.specs.Nfa.{bare, with_initial, with_final, with_step}
+use Rattle.automata.proofs.Steps.{adding_a_step, with_step_automaton, with_step_ordered, bare_ordered}
 use Rattle.automaton_file.specs.LineText.{fields, value}
-use Rattle.automaton_file.specs.Parts.{Lines, Fields, SpellsNumber, IsState, IsStatesLine, Names, SpellsStep, IsStepLine, each_once, SpellsAutomaton, most_states}
+use Rattle.automaton_file.specs.Parts.{Lines, Fields, SpellsNumber, IsState, IsStatesLine, Names, SpellsStep, IsStepLine, SpellsAutomaton, most_states}
 use Rattle.automaton_file.specs.FileText.{letter_of}
 use Rattle.automaton_file.specs.Reading.{with_marks, with_line, with_step_line, with_step_lines, automaton_of}
 use Rattle.automaton_file.proofs.Digits.{value_decimal}
@@ -144,25 +145,46 @@ abbrev Step : Type 0
 Step = ℕ × ℕ × ℕ
 
 -- the automaton with these steps too
-abbrev with_steps : Automaton → List Step → Automaton
+abbrev pub with_steps : Automaton → List (ℕ × ℕ × ℕ) → Automaton
 with_steps m [] = m
 with_steps m (s ∷ more) = with_steps (with_step m s.0 s.1 s.2) more
 
-steps_once : (m : Automaton) (xs : List Step)
-    → with_steps m xs ≡ record m { steps = each_once m.steps xs }
-steps_once m [] = refl
-steps_once m (s ∷ xs) = steps_once (with_step m s.0 s.1 s.2) xs
+-- the step leads from a state to a state by a letter
+abbrev pub IsStepOf : Automaton → ℕ × ℕ × ℕ → Type 0
+IsStepOf m s = (s.0 < m.states) × (s.1 < m.letters) × (s.2 < m.states)
+
+-- nothing but the steps changes
+pub steps_alone : (m : Automaton) (xs : List (ℕ × ℕ × ℕ))
+    → with_steps m xs ≡ record m { steps = (with_steps m xs).steps }
+steps_alone m [] = refl
+steps_alone m (s ∷ xs) = steps_alone (with_step m s.0 s.1 s.2) xs
+
+steps_automaton : (m : Automaton) (xs : List Step) → IsAutomaton m → IsAutomaton (with_steps m xs)
+steps_automaton m [] good = good
+steps_automaton m (s ∷ xs) good =
+    steps_automaton (with_step m s.0 s.1 s.2) xs (with_step_automaton m s.0 s.1 s.2 good)
+
+-- steps that stand in order still do with further ones
+pub steps_ordered : (m : Automaton) (xs : List (ℕ × ℕ × ℕ)) → IsInOrder m
+    → IsInOrder (with_steps m xs)
+steps_ordered m [] ordered = ordered
+steps_ordered m (s ∷ xs) ordered =
+    steps_ordered (with_step m s.0 s.1 s.2) xs (with_step_ordered m s.0 s.1 s.2)
 
 or_assoc : (a b c : Bool) → ((a || b) || c) ≡ (a || (b || c))
 or_assoc true b c = refl
 or_assoc false b c = refl
 
-has_steps : (m : Automaton) (xs : List Step) (p a q : ℕ)
+pub has_steps : (m : Automaton) (xs : List (ℕ × ℕ × ℕ)) (p a q : ℕ) → IsAutomaton m
+    → All (IsStepOf m) xs
     → has_step (with_steps m xs) p a q ≡ (has_step m p a q || list_any (is_step p a q) xs)
-has_steps m [] p a q = sym (or-false _)
-has_steps m (s ∷ xs) p a q =
-    has_steps (with_step m s.0 s.1 s.2) xs p a q
-    ∙ ap (λ (b : Bool). b || list_any (is_step p a q) xs) (adding_a_step m s.0 s.1 s.2 p a q)
+has_steps m [] p a q good each = sym (or-false _)
+has_steps m (s ∷ xs) p a q good each =
+    let (from, letter, to) = All-head (IsStepOf m) s xs each in
+    has_steps (with_step m s.0 s.1 s.2) xs p a q (with_step_automaton m s.0 s.1 s.2 good)
+    (All-tail (IsStepOf m) s xs each)
+    ∙ ap (λ (b : Bool). b || list_any (is_step p a q) xs)
+    (adding_a_step m s.0 s.1 s.2 p a q good from letter to)
     ∙ or_assoc (has_step m p a q) (is_step p a q s) (list_any (is_step p a q) xs)
 
 -- the line spells the step
@@ -273,18 +295,7 @@ among_spelled alphabet states p a q (line ∷ lines) (s ∷ xs) is few (h, zip) 
         (is_the_step p a q s (one_step alphabet states s.0 s.1 s.2 p a q line is few h here))
     by behind (inr more) = or_right (is_step p a q s) (list_any (is_step p a q) xs) (behind more)
 
--- what holds of all steps that are listed
-all_once : (P : Step → Type 0) (listed xs : List Step) → All P listed → All P xs
-    → All P (each_once listed xs)
-all_once P listed [] h k = h
-all_once P listed (s ∷ xs) h k =
-    all_once P (if list_any (is_step s.0 s.1 s.2) listed then listed else listed ++ s ∷ []) xs
-    (by (list_any (is_step s.0 s.1 s.2) listed)) (All-tail P s xs k)
-  where
-    by : (b : Bool) → All P (if b then listed else listed ++ s ∷ [])
-    by true = h
-    by false = All-push P listed s h (All-head P s xs k)
-
+-- what holds of each step that a line spells
 all_spelled : (alphabet : List ℕ) (states : ℕ) (P : Step → Type 0)
     → ((line : List ℕ) (s : Step) → Spells alphabet states line s → P s)
     → (lines : Lines) (xs : List Step) → AllZip (Spells alphabet states) lines xs → All P xs
@@ -294,80 +305,75 @@ all_spelled alphabet states P gives (line ∷ lines) [] zip = elim zip [ ]
 all_spelled alphabet states P gives (line ∷ lines) (s ∷ xs) (h, zip) =
     All-cons P s xs (gives line s h) (all_spelled alphabet states P gives lines xs zip)
 
--- the automaton that is read, by its rows of marks and its steps
-read_as : (alphabet : List ℕ) (states : ℕ) (initial final : List ℕ) (steps : Lines)
-    (xs : List Step)
-    → with_step_lines alphabet
-    (with_line with_final (with_line with_initial (bare states (length alphabet)) (fields initial))
-    (fields final)) steps
-    ≡ with_steps (with_line with_final
-    (with_line with_initial (bare states (length alphabet)) (fields initial)) (fields final)) xs
-    → automaton_of alphabet (bare states (length alphabet)) (initial ∷ final ∷ steps)
-    ≡ record {
-      states = states;
-      letters = length alphabet;
-      initial = row_with
-          (replicate states false) (drop 1 (fields initial));
-      finals = row_with
-          (replicate states false) (drop 1 (fields final));
-      steps = each_once [] xs;
-    }
-read_as alphabet states initial final steps xs same =
-    same ∙ ap (λ (m : Automaton). with_steps m xs)
-    (ap (λ (m : Automaton). with_line with_final m (fields final))
-    (line_marks with_initial (bare states (length alphabet)) (fields initial)
-    ∙ initials (bare states (length alphabet)) (drop 1 (fields initial)))
-    ∙ line_marks with_final _ (fields final) ∙ finals _ (drop 1 (fields final)))
-    ∙ steps_once _ xs
+-- the automaton of the lines `initial` and `final`, without steps
+abbrev rows_alone : ℕ → ℕ → List ℕ → List ℕ → Automaton
+rows_alone states letters initial final = record {
+  states = states;
+  letters = letters;
+  initial = row_with
+      (replicate states false) (drop 1 (fields initial));
+  finals = row_with
+      (replicate states false) (drop 1 (fields final));
+  steps = [];
+}
 
--- such an automaton is the one that the lines spell
+rows_read : (states letters : ℕ) (initial final : List ℕ)
+    → with_line with_final (with_line with_initial (bare states letters) (fields initial))
+    (fields final)
+    ≡ rows_alone states letters initial final
+rows_read states letters initial final =
+    ap (λ (m : Automaton). with_line with_final m (fields final))
+    (line_marks with_initial (bare states letters) (fields initial)
+    ∙ initials (bare states letters) (drop 1 (fields initial)))
+    ∙ line_marks with_final _ (fields final) ∙ finals _ (drop 1 (fields final))
+
+rows_automaton : (states letters : ℕ) (initial final : List ℕ)
+    → IsAutomaton (rows_alone states letters initial final)
+rows_automaton states letters initial final = record {
+  initial =
+      length-row (replicate states false) (drop 1 (fields initial))
+      ∙ length-replicate states false;
+  finals =
+      length-row (replicate states false) (drop 1 (fields final)) ∙ length-replicate states false;
+  from = All-nil _;
+  letter = All-nil _;
+  to = All-nil _;
+}
+
+-- with the steps of the lines it is the automaton that the lines spell
 spelled_by_rows : (alphabet : List ℕ) (states : ℕ) (initial final : List ℕ) (steps : Lines)
     (xs : List Step) → IsAlphabet alphabet → states ≤ most_states
     → IsStatesLine (codes "initial") states initial → IsStatesLine (codes "final") states final
     → AllZip (Spells alphabet states) steps xs
     → SpellsAutomaton alphabet states initial final steps
-    (record {
-      states = states;
-      letters = length alphabet;
-      initial = row_with
-          (replicate states false) (drop 1 (fields initial));
-      finals = row_with
-          (replicate states false) (drop 1 (fields final));
-      steps = each_once [] xs;
-    })
+    (with_steps (rows_alone states (length alphabet) initial final) xs)
 spelled_by_rows alphabet states initial final steps xs is few i f zip = record {
-  automaton = record {
-    initial =
-        length-row (replicate states false) (drop 1 (fields initial))
-        ∙ length-replicate states false;
-    finals =
-        length-row (replicate states false) (drop 1 (fields final)) ∙ length-replicate states false;
-    from =
-        all_once (λ s. s.0 < states) [] xs (All-nil _)
-        (all_spelled alphabet states (λ s. s.0 < states) (λ line s h. h.from_state) steps xs zip);
-    letter =
-        all_once (λ s. s.1 < length alphabet) [] xs (All-nil _)
-        (all_spelled alphabet states (λ s. s.1 < length alphabet)
-        (λ line s h. h.of_alphabet) steps xs zip);
-    to =
-        all_once (λ s. s.2 < states) [] xs (All-nil _)
-        (all_spelled alphabet states (λ s. s.2 < states) (λ line s h. h.to_state) steps xs zip);
-  };
-  states = refl;
-  letters = refl;
-  initial = λ p within. row_of_line (codes "initial") initial states p few i within;
-  finals = λ p within. row_of_line (codes "final") final states p few f within;
+  automaton = steps_automaton rows xs good;
+  states = ap (λ (m : Automaton). m.states) (steps_alone rows xs);
+  letters = ap (λ (m : Automaton). m.letters) (steps_alone rows xs);
+  initial = λ p within.
+      subst (λ (m : Automaton). IsTrue (is_initial m p) ↔ Names initial p)
+      (sym (steps_alone rows xs)) (row_of_line (codes "initial") initial states p few i within);
+  finals = λ p within.
+      subst (λ (m : Automaton). IsTrue (is_final m p) ↔ Names final p)
+      (sym (steps_alone rows xs)) (row_of_line (codes "final") final states p few f within);
   steps = λ p a q.
-      let has : list_any (is_step p a q) (each_once [] xs) ≡ list_any (is_step p a q) xs =
-      sym (ap (λ (m : Automaton). has_step m p a q)
-      (steps_once (bare states (length alphabet)) xs))
-      ∙ has_steps (bare states (length alphabet)) xs p a q in (
+      let has : has_step (with_steps rows xs) p a q ≡ list_any (is_step p a q) xs =
+      has_steps rows xs p a q good
+      (all_spelled alphabet states (IsStepOf rows)
+      (λ line s h. (h.from_state, h.of_alphabet, h.to_state)) steps xs zip) in (
         λ e. spelled_among alphabet states p a q steps xs zip (sym has ∙ e),
         λ any. has
             ∙ among_spelled alphabet states p a q steps xs is few zip any,
       );
-  listed = record { spelled = xs; each = zip; once = refl };
+  ordered = steps_ordered rows xs (bare_ordered states (length alphabet));
 }
+  where
+    rows : Automaton
+    rows = rows_alone states (length alphabet) initial final
+
+    good : IsAutomaton rows
+    good = rows_automaton states (length alphabet) initial final
 
 -- the lines spell the automaton that is read
 pub read_is_spelled : (alphabet : List ℕ) (states : ℕ) (initial final : List ℕ) (steps : Lines)
@@ -382,7 +388,9 @@ read_is_spelled alphabet states initial final steps is few i f each =
     (with_line with_initial (bare states (length alphabet)) (fields initial))
     (fields final)) steps is few each in
     subst (SpellsAutomaton alphabet states initial final steps)
-    (sym (read_as alphabet states initial final steps xs same))
+    (sym (same
+    ∙ ap (λ (m : Automaton). with_steps m xs)
+    (rows_read states (length alphabet) initial final)))
     (spelled_by_rows alphabet states initial final steps xs is few i f zip)
 
 -- the lines spell one automaton
@@ -396,21 +404,6 @@ same_row xs ys n P hx hy tx ty =
     get_or_default xs k d false h ∙ by_same _ _ (tx k within) (ty k within)
     ∙ sym (get_or_default ys k d false (omega arith)))
 
-same_steps : (alphabet : List ℕ) (states : ℕ) (lines : Lines) (xs ys : List Step)
-    → IsAlphabet alphabet → states ≤ most_states → AllZip (Spells alphabet states) lines xs
-    → AllZip (Spells alphabet states) lines ys → xs ≡ ys
-same_steps alphabet states [] [] [] is few h k = refl
-same_steps alphabet states [] [] (y ∷ ys) is few h k = elim k [ ]
-same_steps alphabet states [] (x ∷ xs) ys is few h k = elim h [ ]
-same_steps alphabet states (line ∷ lines) [] ys is few h k = elim h [ ]
-same_steps alphabet states (line ∷ lines) (x ∷ xs) [] is few h k = elim k [ ]
-same_steps alphabet states (line ∷ lines) (x ∷ xs) (y ∷ ys) is few (h, hs) (k, ks) =
-    let (i, j, l) = one_step alphabet states x.0 x.1 x.2 y.0 y.1 y.2 line is few h k in
-    let same : x ≡ y = ap (λ (p : ℕ). (p, x.1, x.2)) i ∙ ap (λ (a : ℕ). (y.0, a, x.2)) j
-    ∙ ap (λ (q : ℕ). (y.0, y.1, q)) l in
-    ap (λ (s : Step). s ∷ xs) same
-    ∙ ap (λ (ss : List Step). y ∷ ss) (same_steps alphabet states lines xs ys is few hs ks)
-
 same_fields : (m n : Automaton) → m.states ≡ n.states → m.letters ≡ n.letters
     → m.initial ≡ n.initial → m.finals ≡ n.finals → m.steps ≡ n.steps → m ≡ n
 same_fields m n e f g h i =
@@ -421,16 +414,15 @@ same_fields m n e f g h i =
     ∙ ap (λ (x : List Step). record n { steps = x }) i
 
 pub one_spelled : (alphabet : List ℕ) (states : ℕ) (initial final : List ℕ) (steps : Lines)
-    (m n : Automaton) → IsAlphabet alphabet → states ≤ most_states
-    → SpellsAutomaton alphabet states initial final steps m
+    (m n : Automaton) → SpellsAutomaton alphabet states initial final steps m
     → SpellsAutomaton alphabet states initial final steps n → m ≡ n
-one_spelled alphabet states initial final steps m n is few h k =
-    same_fields m n (h.states ∙ sym k.states) (h.letters ∙ sym k.letters)
+one_spelled alphabet states initial final steps m n h k =
+    let size : m.states ≡ n.states = h.states ∙ sym k.states in
+    let letters : m.letters ≡ n.letters = h.letters ∙ sym k.letters in
+    same_fields m n size letters
     (same_row m.initial n.initial states (Names initial) (h.automaton.initial
     ∙ h.states) (k.automaton.initial ∙ k.states) h.initial k.initial)
     (same_row m.finals n.finals states (Names final) (h.automaton.finals
     ∙ h.states) (k.automaton.finals ∙ k.states) h.finals k.finals)
-    (h.listed.once
-    ∙ ap (each_once [])
-    (same_steps alphabet states steps h.listed.spelled k.listed.spelled is few h.listed.each
-    k.listed.each) ∙ sym k.listed.once)
+    (in_order_alike m n h.ordered k.ordered size letters
+    (λ p a q. by_same _ _ (h.steps p a q) (k.steps p a q)))

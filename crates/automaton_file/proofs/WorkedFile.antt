@@ -1,6 +1,7 @@
 -- The worked file, read by computation.
 use Rattle.std.proofs.Common.{◌≡◌, ◌≤◌, [], length, refl, arith}
 use Rattle.std.specs.Prelude.{Some, None}
+use Rattle.language_theory.specs.Automaton.{steps_where}
 use Rattle.automaton_file.specs.declared.sources.Wrong.TheVariants.{State}
 use Rattle.automaton_file.specs.LineText.{text_lines, fields, parts, number_below}
 use Rattle.automaton_file.specs.FileText.{most_bytes, IsSource, IsRefusal}
@@ -15,7 +16,7 @@ unfolding text_lines fields number_below
 worked_passes = refl
 
 worked_reads : ReadsSource (parts (text_lines worked_text)) worked_source
-unfolding text_lines fields number_below
+unfolding text_lines fields number_below steps_where
 worked_reads = (refl, (refl, refl))
 
 pub worked_is_source : IsSource worked_text worked_source

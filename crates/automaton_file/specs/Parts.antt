@@ -1,8 +1,8 @@
 -- File format 1: what each part of a file must be, and what it says.
-use Rattle.std.specs.Prelude.{◌≡◌, ◌<◌, ◌≤◌, ◌↔◌, ℕ, IsTrue, List, [], ◌∷◌, length, drop, codes, slice_index, All, if◌then◌else◌, ◌++◌}
+use Rattle.std.specs.Prelude.{◌≡◌, ◌<◌, ◌≤◌, ◌↔◌, ℕ, IsTrue, List, [], ◌∷◌, length, drop, codes, slice_index, All}
 use Rattle.std.specs.Fmt.{decimal}
-use Rattle.std.specs.List.{list_any, concat, Any, AllZip}
-use Rattle.language_theory.specs.Automaton.{Automaton, IsAutomaton, is_initial, is_final, is_step, has_step}
+use Rattle.std.specs.List.{concat, Any}
+use Rattle.language_theory.specs.Automaton.{Automaton, IsAutomaton, IsInOrder, is_initial, is_final, has_step}
 use Rattle.expression_theory.specs.Expression.{Tree}
 use Rattle.expression_theory.specs.Scan.{classes, IsAccepted, SpellsTree}
 use Rattle.syn_words.specs.Alphabet.{IsAlphabet}
@@ -83,22 +83,10 @@ pub record SpellsStep (alphabet : List ℕ) (states from letter to : ℕ) (line 
 abbrev pub IsStepLine : List ℕ → ℕ → List ℕ → Type 0
 IsStepLine alphabet states line = (p a q : ℕ) × SpellsStep alphabet states p a q line
 
--- the steps in the list, and behind them those further steps that it does not have, each once
-abbrev pub each_once : List (ℕ × ℕ × ℕ) → List (ℕ × ℕ × ℕ) → List (ℕ × ℕ × ℕ)
-each_once listed [] = listed
-each_once listed (s ∷ more) =
-    each_once (if list_any (is_step s.0 s.1 s.2) listed then listed else listed ++ s ∷ []) more
-
--- the steps are listed in the order of their lines, each once
-pub record AreListed (alphabet : List ℕ) (states : ℕ) (lines : Lines)
-    (steps : List (ℕ × ℕ × ℕ)) : Type 0 where
-  pub spelled : List (ℕ × ℕ × ℕ)
-  pub each : AllZip (λ line s. SpellsStep alphabet states s.0 s.1 s.2 line) lines spelled
-  pub once : steps ≡ each_once [] spelled
-
 -- The automaton that a line `initial`, a line `final` and the step lines spell: a state is
 -- initial exactly where a field of the line `initial` spells its number, final likewise, and
--- there is a step exactly where some step line spells it.
+-- there is a step exactly where some step line spells it. The steps are listed in the order of
+-- their states, letters and targets, each once.
 pub record SpellsAutomaton (alphabet : List ℕ) (count : ℕ) (initial_line final_line : List ℕ)
     (step_lines : Lines) (m : Automaton) : Type 0 where
   pub automaton : IsAutomaton m
@@ -108,4 +96,4 @@ pub record SpellsAutomaton (alphabet : List ℕ) (count : ℕ) (initial_line fin
   pub finals : (p : ℕ) → p < count → IsTrue (is_final m p) ↔ Names final_line p
   pub steps : (p a q : ℕ) → IsTrue (has_step m p a q)
       ↔ Any (SpellsStep alphabet count p a q) step_lines
-  pub listed : AreListed alphabet count step_lines m.steps
+  pub ordered : IsInOrder m

@@ -1,10 +1,9 @@
 -- Where the reader of a file stands, and the faults that it may still find.
-use Rattle.std.specs.Prelude.{◌≡◌, ◌+◌, ◌-◌, ◌<◌, ◌≤◌, ◌++◌, ⊤, ℕ, Bool, true, false, not, cond, ◌&&◌, nat_le, Option, Some, None, List, [], ◌∷◌, length, drop, slice_range, codes}
-use Rattle.std.specs.List.{list_all}
+use Rattle.std.specs.Prelude.{◌≡◌, ◌+◌, ◌-◌, ◌<◌, ◌≤◌, ◌++◌, ⊤, ℕ, Bool, true, false, cond, nat_le, Option, Some, None, List, [], ◌∷◌, length, drop, codes}
 use Rattle.std.specs.Option.{unwrap_or, option_or}
 use Rattle.language_theory.specs.Automaton.{Automaton}
 use Rattle.syn_words.specs.Alphabet.{IsAlphabet}
-use Rattle.syn_words.specs.Nfa.{bare, with_initial, with_final, with_step}
+use Rattle.automata.specs.Nfa.{bare, with_initial, with_final, with_step}
 use Rattle.automaton_file.specs.declared.sources.Wrong.{Wrong}
 use Rattle.automaton_file.specs.declared.sources.Wrong.TheVariants as wrong
 use Rattle.automaton_file.specs.declared.parts.BodyLine.{BodyLine}

@@ -14,9 +14,10 @@ ghost use Rattle.automaton_file.specs.Reading.{with_marks, with_line, with_step_
 use crate::faults::LineFault;
 use crate::fields::{first_field, number_below};
 use crate::sources::Wrong;
+use automata::Nfa;
 use regex_reader::{Expr, read_expr};
 use std::alloc::Global;
-use syn_words::{Alphabet, AlphabetFault, Memory, Nfa};
+use syn_words::{Alphabet, AlphabetFault, Memory};
 
 /// The most states that the automaton of a file may have.
 const MOST_STATES: u32 = 1000;

@@ -2,7 +2,7 @@
 
 ghost use Rattle.std.specs.Prelude.{◌≡◌, ◌≤◌, None, Some, true, false, [], length, drop, IfOk, IfErr, OnOk};
 ghost use Rattle.syn_words.specs.Alphabet.{IsAlphabet};
-ghost use Rattle.syn_words.specs.Nfa.{bare};
+ghost use Rattle.automata.specs.Nfa.{bare};
 ghost use Rattle.automaton_file.specs.LineText.{text_lines, fields, parts};
 ghost use Rattle.automaton_file.specs.Parts.{most_states};
 ghost use Rattle.automaton_file.specs.FileText.{most_bytes, code_of, header_fault, alphabet_fault, body_fault, marks_fault, step_fault, source_text, body_text, CanBuild, IsSource, IsSoundSource, IsFileRefusal};
@@ -13,8 +13,9 @@ use crate::faults::{BadLine, LineFault, ReadFault};
 use crate::lines::{LineGot, next_line};
 use crate::parts::{BodyLine, Mark, read_alphabet, read_body, read_header, read_marks, read_step};
 use crate::sources::{Body, FileFault, Refusal, Source, Wrong};
+use automata::Nfa;
 use std::alloc::Global;
-use syn_words::{Alphabet, Nfa};
+use syn_words::Alphabet;
 
 /// The most bytes that a file may have.
 const MOST_BYTES: usize = 1_048_576;

@@ -3,8 +3,9 @@
 ghost use Rattle.std.specs.Prelude.{◌≡◌};
 ghost use Rattle.automaton_file.specs.FileText.{code_of};
 
+use automata::Nfa;
 use regex_reader::Expr;
-use syn_words::{Alphabet, Nfa};
+use syn_words::Alphabet;
 use thiserror::Error;
 
 /// The body of a file: an automaton, or an expression.

@@ -1,5 +1,5 @@
-pub mod States
 pub mod LineEnds
 pub mod Words
 pub mod StepReading
+pub mod StepOrder
 pub mod Spelling

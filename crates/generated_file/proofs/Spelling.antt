@@ -5,20 +5,24 @@ use Rattle.std.specs.Fmt.{decimal}
 use Rattle.std.specs.List.{flat_map, range_with_len}
 use Rattle.std.proofs.lemmas.Fmt.{decimal_digit, length-decimal-le}
 use Rattle.std.proofs.lemmas.Grind.{flat_map-append}
+use Rattle.std.proofs.lemmas.List.{length-replicate}
 use Rattle.std.proofs.lemmas.List.Elements.{All-nil, All-cons, All-head, All-tail, All-append, All-weaker}
-use Rattle.syn_words.specs.Nfa.{bare}
+use Rattle.language_theory.specs.Automaton.{Automaton, IsAutomaton}
+use Rattle.language_theory.proofs.StepLists.{with_one_more, all_below, in_order_alike}
+use Rattle.automata.specs.Nfa.{bare}
+use Rattle.automata.proofs.Steps.{bare_ordered}
 use Rattle.automaton_file.specs.LineText.{text_lines, fields, is_plain, is_significant, parts}
 use Rattle.automaton_file.specs.Parts.{Lines, IsState, SpellsAlphabet, SpellsCount, IsStatesLine, SpellsAutomaton}
 use Rattle.automaton_file.specs.FileText.{most_bytes, SpellsAutomatonFile, IsSource}
 use Rattle.automaton_file.specs.Reading.{automaton_of, with_step_lines}
 use Rattle.automaton_file.proofs.Letters.{from_alphabet_test}
-use Rattle.automaton_file.proofs.Spelled.{read_is_spelled}
+use Rattle.automaton_file.proofs.Spelled.{IsStepOf, with_steps, steps_alone, steps_ordered, has_steps, read_is_spelled}
 use Rattle.syn_words.specs.Alphabet.{IsAlphabet}
-use Rattle.generated_file.specs.Generated.{least_size, most_size, next_state, step_line, step_lines, head_lines, generated_lines, text_of, generated_text, first_alone, generated_automaton, generated_source}
-use Rattle.generated_file.proofs.States.{with_one_more, all_of_states}
+use Rattle.generated_file.specs.Generated.{least_size, most_size, next_state, step_line, step_lines, head_lines, generated_lines, text_of, generated_text, steps_from, first_alone, generated_automaton, generated_source}
 use Rattle.generated_file.proofs.LineEnds.{IsPlain, lines_of_text}
 use Rattle.generated_file.proofs.Words.{InWord, decimal_word, letter_word, plain_word, plain_append, last_word, word_significant, step_fields, step_plain}
 use Rattle.generated_file.proofs.StepReading.{ab, next_below, are_step_lines, lines_read}
+use Rattle.generated_file.proofs.StepOrder.{generated_ordered}
 
 -- The lines.
 
@@ -67,7 +71,7 @@ are_parts : (size : ℕ) → size ≤ most_size → All IsPart (generated_lines 
 are_parts size few =
     All-append IsPart (head_lines size) (flat_map (step_lines size) (range_with_len 0 size))
     (head_parts size few)
-    (all_of_states IsPart (step_lines size) size (λ i h. step_parts size i h few))
+    (all_below IsPart (step_lines size) size (λ i h. step_parts size i h few))
 
 same_lines : (size : ℕ) → size ≤ most_size → text_lines (generated_text size) ≡ generated_lines size
 unfolding generated_text
@@ -149,30 +153,63 @@ first_marked zero h = absurd (omega arith)
 first_marked (suc k) h =
     ap (λ (n : ℕ). true ∷ replicate n false) (let e : k ≡ suc k - 1 = omega arith in e)
 
+-- the automaton without steps
+abbrev rows_alone : ℕ → Automaton
+rows_alone size = record {
+  states = size;
+  letters = 2;
+  initial = first_alone size;
+  finals = first_alone size;
+  steps = [];
+}
+
+rows_automaton : (size : ℕ) → 1 ≤ size → IsAutomaton (rows_alone size)
+rows_automaton size some =
+    let long : length (first_alone size) ≡ size =
+    omega (arith, length-replicate (size - 1) false) in
+    record { initial = long; finals = long; from = All-nil _; letter = All-nil _; to = All-nil _ }
+
 marks_read : (size : ℕ) (steps : Lines) → 1 ≤ size
     → automaton_of ab (bare size 2) (codes "initial 0" ∷ codes "final 0" ∷ steps)
-    ≡ with_step_lines ab
-    (record {
-      states = size;
-      letters = 2;
-      initial = first_alone size;
-      finals = first_alone size;
-      steps = [];
-    }) steps
+    ≡ with_step_lines ab (rows_alone size) steps
 unfolding fields
 marks_read size steps some =
     ap (λ (row : List Bool). with_step_lines ab
     (record { states = size; letters = 2; initial = row; finals = row; steps = [] }) steps)
     (first_marked size some)
 
+steps_within : (size : ℕ)
+    → All (IsStepOf (rows_alone size)) (flat_map (steps_from size) (range_with_len 0 size))
+steps_within size =
+    all_below (IsStepOf (rows_alone size)) (steps_from size) size (λ i h.
+    let next = next_state size i in
+    All-cons (IsStepOf (rows_alone size)) (i, 0, next) ((i, 1, 0) ∷ [])
+    (h, omega arith, next_below size i h)
+    (All-cons (IsStepOf (rows_alone size)) (i, 1, 0) [] (h, omega arith, omega arith)
+    (All-nil (IsStepOf (rows_alone size)))))
+
+steps_read : (size : ℕ) → 1 ≤ size
+    → with_steps (rows_alone size) (flat_map (steps_from size) (range_with_len 0 size))
+    ≡ generated_automaton size
+unfolding generated_automaton
+steps_read size some =
+    let rows = rows_alone size in
+    let steps = flat_map (steps_from size) (range_with_len 0 size) in
+    let alone = steps_alone rows steps in
+    alone
+    ∙ ap (λ (xs : List (ℕ × ℕ × ℕ)). record rows { steps = xs })
+    (in_order_alike (with_steps rows steps) (generated_automaton size)
+    (steps_ordered rows steps (bare_ordered size 2)) (generated_ordered size)
+    (ap (λ (m : Automaton). m.states) alone) (ap (λ (m : Automaton). m.letters) alone)
+    (λ p a q. has_steps rows steps p a q (rows_automaton size some) (steps_within size)))
+
 automaton_read : (size : ℕ) → 1 ≤ size → size ≤ most_size
     → automaton_of ab (bare size 2)
     (codes "initial 0" ∷ codes "final 0" ∷ flat_map (step_lines size) (range_with_len 0 size))
     ≡ generated_automaton size
-unfolding generated_automaton
 automaton_read size some few =
     marks_read size (flat_map (step_lines size) (range_with_len 0 size)) some
-    ∙ lines_read (generated_automaton size) size size (omega arith) few
+    ∙ lines_read (rows_alone size) size size (omega arith) few ∙ steps_read size some
 
 is_alphabet : IsAlphabet ab
 is_alphabet = from_alphabet_test ab refl

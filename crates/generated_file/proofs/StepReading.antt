@@ -1,21 +1,21 @@
 -- The step lines of a generated file, and the steps that are read from them.
-use Rattle.std.proofs.Common.{◌≡◌, ℕ, zero, suc, ◌+◌, ◌<◌, ◌≤◌, List, [], ◌∷◌, ◌++◌, refl, sym, ap, ◌∙◌, arith, true, false, append_assoc}
+use Rattle.std.proofs.Common.{◌≡◌, ℕ, zero, suc, ◌+◌, ◌<◌, ◌≤◌, List, [], ◌∷◌, ◌++◌, refl, sym, ap, ◌∙◌, arith, true, false}
 use Rattle.std.specs.Prelude.{Bool, cond, Option, Some, ◌==◌, All, codes, slice_index, length}
 use Rattle.std.specs.Fmt.{decimal}
-use Rattle.std.specs.List.{flat_map, range_with_len, list_any}
+use Rattle.std.specs.List.{flat_map, range_with_len}
 use Rattle.std.specs.Option.{unwrap_or}
-use Rattle.std.proofs.lemmas.Bool.{eqb-false, ne_eqb, and_right}
+use Rattle.std.proofs.lemmas.Bool.{eqb-false}
 use Rattle.std.proofs.lemmas.List.Elements.{All-nil, All-cons}
-use Rattle.std.proofs.lemmas.List.Folds.{list_any-append}
-use Rattle.language_theory.specs.Automaton.{Automaton, is_step}
-use Rattle.syn_words.specs.Nfa.{with_step}
+use Rattle.language_theory.specs.Automaton.{Automaton}
+use Rattle.language_theory.proofs.StepLists.{with_one_more, all_below}
+use Rattle.automata.specs.Nfa.{with_step}
 use Rattle.automaton_file.specs.LineText.{fields, value}
 use Rattle.automaton_file.specs.Parts.{Lines, SpellsStep, IsStepLine}
 use Rattle.automaton_file.specs.FileText.{letter_of}
 use Rattle.automaton_file.specs.Reading.{with_step_line, with_step_lines}
 use Rattle.automaton_file.proofs.Digits.{value_decimal}
+use Rattle.automaton_file.proofs.Spelled.{with_steps}
 use Rattle.generated_file.specs.Generated.{most_size, next_state, step_line, step_lines, steps_from}
-use Rattle.generated_file.proofs.States.{with_one_more, all_of_states}
 use Rattle.generated_file.proofs.Words.{InWord, letter_word, step_fields}
 
 abbrev pub ab : List ℕ
@@ -66,19 +66,13 @@ spelled_step size i a b to is h k few = record {
 pub are_step_lines : (size : ℕ) → size ≤ most_size
     → All (IsStepLine ab size) (flat_map (step_lines size) (range_with_len 0 size))
 are_step_lines size few =
-    all_of_states (IsStepLine ab size) (step_lines size) size (λ i h.
+    all_below (IsStepLine ab size) (step_lines size) size (λ i h.
     let next = next_state size i in
     All-cons (IsStepLine ab size) (step_line i (codes "a") next) (step_line i (codes "b") 0 ∷ [])
     (i, 0, next, spelled_step size i 0 97 next letter_a h (next_below size i h) few)
     (All-cons (IsStepLine ab size) (step_line i (codes "b") 0) []
     (i, 1, 0, spelled_step size i 1 98 0 letter_b h (omega arith) few)
     (All-nil (IsStepLine ab size))))
-
--- a step that isn't there comes behind the others
-added : (m : Automaton) (listed : List (ℕ × ℕ × ℕ)) (p a q : ℕ)
-    → list_any (is_step p a q) listed ≡ false
-    → with_step (record m { steps = listed }) p a q ≡ record m { steps = listed ++ (p, a, q) ∷ [] }
-added m listed p a q e = rw e refl
 
 line_read : (m : Automaton) (i a b to : ℕ) → IsLetter a b → i ≤ most_size → to ≤ most_size
     → with_step_line ab m (fields (step_line i (b ∷ []) to)) ≡ with_step m i a to
@@ -95,50 +89,30 @@ lines_append : (m : Automaton) (xs ys : Lines)
 lines_append m [] ys = refl
 lines_append m (x ∷ xs) ys = lines_append (with_step_line ab m (fields x)) xs ys
 
--- no step from a state below n leads from a state that isn't
-none_from : (size n i a q : ℕ) → n ≤ i
-    → list_any (is_step i a q) (flat_map (steps_from size) (range_with_len 0 n)) ≡ false
-none_from size zero i a q h = refl
-none_from size (suc n) i a q h =
-    let other : (n == i) ≡ false = ne_eqb n i (λ e. omega arith) in
-    let before = none_from size n i a q (omega arith) in
-    ap (list_any (is_step i a q)) (with_one_more (steps_from size) n)
-    ∙ list_any-append (is_step i a q) (flat_map (steps_from size) (range_with_len 0 n))
-    (steps_from size n)
-    ∙ rw (before, other) refl
+steps_append : (m : Automaton) (xs ys : List (ℕ × ℕ × ℕ))
+    → with_steps m (xs ++ ys) ≡ with_steps (with_steps m xs) ys
+steps_append m [] ys = refl
+steps_append m (x ∷ xs) ys = steps_append (with_step m x.0 x.1 x.2) xs ys
 
-both_read : (m : Automaton) (size i : ℕ) (listed : List (ℕ × ℕ × ℕ)) → i < size
-    → size ≤ most_size → ((a q : ℕ) → list_any (is_step i a q) listed ≡ false)
-    → with_step_lines ab (record m { steps = listed }) (step_lines size i)
-    ≡ record m { steps = listed ++ steps_from size i }
-both_read m size i listed h few none =
+both_read : (m : Automaton) (size i : ℕ) → i < size → size ≤ most_size
+    → with_step_lines ab m (step_lines size i) ≡ with_steps m (steps_from size i)
+both_read m size i h few =
     let next = next_state size i in
-    let more : List (ℕ × ℕ × ℕ) = listed ++ (i, 0, next) ∷ [] in
-    let other : list_any (is_step i 1 0) more ≡ false =
-    list_any-append (is_step i 1 0) listed ((i, 0, next) ∷ [])
-    ∙ rw (none 1 0, and_right (i == i) false refl) refl in
     ap (λ (n : Automaton). with_step_line ab n (fields (step_line i (codes "b") 0)))
-    (line_read (record m { steps = listed }) i 0 97 next letter_a (omega arith)
-    (omega (arith, next_below size i h))
-    ∙ added m listed i 0 next (none 0 next))
-    ∙ line_read (record m { steps = more }) i 1 98 0 letter_b (omega arith) (omega arith)
-    ∙ added m more i 1 0 other
-    ∙ ap (λ (steps : List (ℕ × ℕ × ℕ)). record m { steps = steps })
-    (append_assoc listed ((i, 0, next) ∷ []) ((i, 1, 0) ∷ []))
+    (line_read m i 0 97 next letter_a (omega arith) (omega (arith, next_below size i h)))
+    ∙ line_read (with_step m i 0 next) i 1 98 0 letter_b (omega arith) (omega arith)
 
 -- the lines of the states below n give their steps
 pub lines_read : (m : Automaton) (size n : ℕ) → n ≤ size → size ≤ most_size
-    → with_step_lines ab (record m { steps = [] })
-    (flat_map (step_lines size) (range_with_len 0 n))
-    ≡ record m { steps = flat_map (steps_from size) (range_with_len 0 n) }
+    → with_step_lines ab m (flat_map (step_lines size) (range_with_len 0 n))
+    ≡ with_steps m (flat_map (steps_from size) (range_with_len 0 n))
 lines_read m size zero h few = refl
 lines_read m size (suc n) h few =
     let listed = flat_map (steps_from size) (range_with_len 0 n) in
-    ap (with_step_lines ab (record m { steps = [] })) (with_one_more (step_lines size) n)
-    ∙ lines_append (record m { steps = [] }) (flat_map (step_lines size) (range_with_len 0 n))
-    (step_lines size n)
+    ap (with_step_lines ab m) (with_one_more (step_lines size) n)
+    ∙ lines_append m (flat_map (step_lines size) (range_with_len 0 n)) (step_lines size n)
     ∙ ap (λ (k : Automaton). with_step_lines ab k (step_lines size n))
     (lines_read m size n (omega arith) few)
-    ∙ both_read m size n listed (omega arith) few (λ a q. none_from size n n a q (omega arith))
-    ∙ ap (λ (steps : List (ℕ × ℕ × ℕ)). record m { steps = steps })
-    (sym (with_one_more (steps_from size) n))
+    ∙ both_read (with_steps m listed) size n (omega arith) few
+    ∙ sym (steps_append m listed (steps_from size n))
+    ∙ ap (with_steps m) (sym (with_one_more (steps_from size) n))

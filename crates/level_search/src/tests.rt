@@ -3,10 +3,11 @@ ghost use Rattle.std.specs.Prelude.{◌≡◌, ◌≤◌, ℕ, Option};
 ghost use Rattle.level_search.specs.OneKey.{one_key_congruence, one_key_numbered};
 
 use crate::{BeginFault, Level, MOST_PAIRS, Quotient, search};
+use automata::Nfa;
 use std::alloc::Global;
 use std::test::Fail;
 use subset_minimal::{MinFault, minimal};
-use syn_words::{Memory, Nfa};
+use syn_words::Memory;
 
 /// One key for all words, of width 1 at every level.
 #[derive(Drop)]

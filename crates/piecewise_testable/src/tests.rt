@@ -6,6 +6,7 @@ ghost use Rattle.green_relations.specs.GreenClasses.{AreGreens};
 ghost use Rattle.syntactic_monoid.specs.SyntacticMonoid.{IsSyntacticMonoid};
 
 use crate::{CWitness, PtAnswer, PtWitness, Side, Subwords, commutative, piecewise, r_trivial};
+use automata::Nfa;
 use green_relations::{Green, green_of};
 use level_search::{BeginFault, Quotient};
 use std::alloc::Global;
@@ -13,7 +14,7 @@ use std::test::Fail;
 use std::thread::Threads;
 use subset_minimal::{MinDfa, minimal};
 use syn_outside::OpenGate;
-use syn_words::{Memory, Nfa, Word};
+use syn_words::{Memory, Word};
 use syntactic_monoid::{Syntactic, syntactic_of};
 
 /// An automaton over ab that accepts no word.

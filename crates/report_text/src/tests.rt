@@ -2,11 +2,12 @@
 ghost use Rattle.std.specs.Prelude.{◌≡◌, false};
 
 use crate::{Buffer, SayFault, flush, say, say_automaton};
+use automata::Nfa;
 use std::alloc::Global;
 use std::test::Fail;
 use subset_minimal::minimal;
 use syn_outside::MemSink;
-use syn_words::{Alphabet, Nfa};
+use syn_words::Alphabet;
 
 /// A text of 50,000 bytes.
 fn long_text(alloc: Global) -> Result<Vec<u8>, Fail> {

@@ -3,13 +3,14 @@ ghost use Rattle.std.specs.Prelude.{◌≤◌};
 ghost use Rattle.star_free_lists.specs.SfList.{most_nodes};
 
 use crate::{Powers, SfAnswer, decide, star_free};
+use automata::Nfa;
 use parallel_table::{fill, new_table};
 use std::alloc::Global;
 use std::test::Fail;
 use std::thread::Threads;
 use subset_minimal::minimal;
 use syn_outside::OpenGate;
-use syn_words::{Memory, Nfa, Word};
+use syn_words::{Memory, Word};
 use syntactic_monoid::{Syntactic, syntactic_of};
 
 /// An automaton of `(aa)*` over a.

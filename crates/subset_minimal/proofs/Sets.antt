@@ -1,19 +1,20 @@
 -- Rows of marks that words lead to, and the states that words reach.
-use Rattle.std.proofs.Common.{◌≡◌, ℕ, ◌+◌, ◌<◌, ◌≤◌, ◌↔◌, ◌⊎◌, inl, inr, Bool, true, false, IsTrue, List, [], ◌∷◌, ◌++◌, length, get_or, set, take, replicate, Contains, refl, ap, sym, subst, ◌∙◌, arith}
+use Rattle.std.proofs.Common.{◌≡◌, ℕ, ◌+◌, ◌<◌, ◌≤◌, ◌↔◌, ◌||◌, inl, inr, Bool, true, false, IsTrue, List, [], ◌∷◌, ◌++◌, length, replicate, refl, ap, sym, subst, ◌∙◌, arith}
 use Rattle.std.specs.List.{list_any}
 use Rattle.std.specs.Cmp.{both_ways as equal_tests}
-use Rattle.std.proofs.lemmas.Bool.{both_ways, cases_lt}
-use Rattle.std.proofs.lemmas.List.{ext_get_or, get_or-replicate, length-replicate, length-set, get_or-set_other}
+use Rattle.std.proofs.lemmas.Bool.{both_ways, cases_lt, or_cases}
+use Rattle.std.proofs.Math.Bool.{true-or, or-true}
+use Rattle.std.proofs.lemmas.List.{ext_get_or, get_or-replicate, length-replicate}
 use Rattle.std.proofs.lemmas.List.FromFn.{length-map-range_with_len, get_or-map-range_with_len}
 use Rattle.std.proofs.lemmas.List.Folds.{Any-from_list_any, list_any_at}
-use Rattle.std.proofs.lemmas.Grind.{common_steps, get_or-set_at}
-use Rattle.std.proofs.lemmas.List.Elements.{Contains-append_left, Contains-append_right, Contains-append_cases}
-use Rattle.language_theory.proofs.Numbers.{equal_or_not}
-use Rattle.language_theory.specs.Automaton.{Automaton, IsAutomaton, is_marked, is_step, has_step, targets_of, Leads, IsReached, SameSubset, Accepts}
+use Rattle.std.proofs.lemmas.Grind.{common_steps}
+use Rattle.language_theory.specs.Automaton.{Automaton, IsAutomaton, is_marked, is_step, has_step, Leads, IsReached, SameSubset, Accepts}
 use Rattle.language_theory.specs.Congruence.{moved}
 use Rattle.language_theory.proofs.Congruences.{moved_append}
-use Rattle.language_theory.proofs.Automata.{accepts_reached, reached_within, target_listed}
-use Rattle.subset_minimal.specs.Subsets.{comes_from, successor, set_of, AreAdded, HasFinal}
+use Rattle.language_theory.proofs.Automata.{accepts_reached, reached_within}
+use Rattle.subset_minimal.specs.Subsets.{comes_from, successor, set_of, HasFinal}
+use Rattle.automata.specs.Nfa.{IsRow}
+use Rattle.number_set.specs.Marks.{IsUnion}
 
 -- ---- one letter
 
@@ -146,62 +147,14 @@ accepts_by_set m w good = (
       reached_within m w r reached in (r, hr, (set_of_marks m w r good hr).1 reached, final),
 )
 
--- ---- states that are added to a set
-
-pub none_added : (marks : List Bool) (states : List ℕ) → AreAdded marks (take 0 states) marks
-none_added marks states = record {
-  long = refl;
-  each =
-      λ q. (inl, λ h. elim h [ inl m ↦ m | inr c ↦ let (i, l, e) = c in absurd (omega arith) ]);
-}
-
-pub one_added : (old marks : List Bool) (states : List ℕ) (i q : ℕ) → i < length states
-    → q ≡ get_or states i 0 → q < length old → AreAdded old (take i states) marks
-    → AreAdded old (take (i + 1) states) (set marks q true)
-one_added old marks states i q l e within h =
-    record { long = length-set marks q true ∙ h.long; each = λ p. (to p, from p) }
-  where
-    more : take (i + 1) states ≡ take i states ++ q ∷ []
-    more = rw e (grind (arith, common_steps))
-
-    to : (p : ℕ) → IsTrue (is_marked (set marks q true) p)
-        → IsTrue (is_marked old p) ⊎ Contains (take (i + 1) states) p
-    to p t = elim (equal_or_not p q) [
-      | inl f ↦ inr (rw (more, f)
-          (Contains-append_right (take i states) (q ∷ []) q (0, omega arith, refl)))
-      | inr n ↦ elim ((h.each p).0 (sym (get_or-set_other marks q p true false n) ∙ t)) [
-        | inl m ↦ inl m
-        | inr c ↦ inr (rw more (Contains-append_left (take i states) (q ∷ []) p c))
-      ]
-    ]
-
-    marked : (p : ℕ) → IsTrue (is_marked marks p) → IsTrue (is_marked (set marks q true) p)
-    marked p t = elim (equal_or_not p q) [
-      | inl f ↦ get_or-set_at marks q p true false f (rw h.long within)
-      | inr n ↦ get_or-set_other marks q p true false n ∙ t
-    ]
-
-    from : (p : ℕ) → IsTrue (is_marked old p) ⊎ Contains (take (i + 1) states) p
-        → IsTrue (is_marked (set marks q true) p)
-    from p (inl m) = marked p ((h.each p).1 (inl m))
-    from p (inr c) = elim (Contains-append_cases (take i states) (q ∷ []) p
-        (subst (λ xs. Contains xs p) more c)) [
-          | inl d ↦ marked p ((h.each p).1 (inr d))
-          | inr d ↦ let (j, lj, f) = d in let j0 : j ≡ 0 =
-              omega arith in get_or-set_at marks q p true false (here j j0 f) (rw h.long within)
-        ]
-      where
-        here : (j : ℕ) → j ≡ 0 → get_or (q ∷ []) j p ≡ p → p ≡ q
-        here j j0 f = sym (subst (λ (n : ℕ). get_or (q ∷ []) n p ≡ p) j0 f)
-
 -- ---- a set that is made state by state
 
--- the marked states are the targets of the states below n that are in the set
+-- the marked states are those to which steps lead from the members below n
 pub record AreTargetsBelow (m : Automaton) (members : List Bool) (a n : ℕ)
     (marks : List Bool) : Type 0 where
   pub long : length marks ≡ m.states
   pub each : (q : ℕ) → q < m.states → IsTrue (is_marked marks q)
-      ↔ ((p : ℕ) × (p < n) × IsTrue (is_marked members p) × Contains (targets_of m p a) q)
+      ↔ ((p : ℕ) × (p < n) × IsTrue (is_marked members p) × IsTrue (has_step m p a q))
 
 pub none_below : (m : Automaton) (members : List Bool) (a n : ℕ) → n ≡ m.states
     → AreTargetsBelow m members a 0 (replicate n false)
@@ -215,26 +168,31 @@ none_below m members a n e = record {
   );
 }
 
--- a member adds its targets
-pub more_below : (m : Automaton) (members : List Bool) (a n : ℕ) (old new : List Bool)
-    → IsTrue (is_marked members n) → AreAdded old (targets_of m n a) new
+-- a member adds the states to which its steps lead
+pub more_below : (m : Automaton) (members : List Bool) (a n : ℕ) (old row new : List Bool)
+    → IsTrue (is_marked members n) → IsRow m n a row → IsUnion old row new
     → AreTargetsBelow m members a n old → AreTargetsBelow m members a (n + 1) new
-more_below m members a n old new marked added h =
+more_below m members a n old row new marked here added h =
     record { long = added.long ∙ h.long; each = λ q l. (to q l, from q l) }
   where
+    mark : (q : ℕ) → is_marked new q ≡ (is_marked old q || has_step m n a q)
+    mark q = added.each q ∙ ap (λ (b : Bool). is_marked old q || b) (here.each q)
+
     to : (q : ℕ) → q < m.states → IsTrue (is_marked new q)
-        → (p : ℕ) × (p < n + 1) × IsTrue (is_marked members p) × Contains (targets_of m p a) q
-    to q l t = elim ((added.each q).0 t) [
+        → (p : ℕ) × (p < n + 1) × IsTrue (is_marked members p) × IsTrue (has_step m p a q)
+    to q l t = elim (or_cases (is_marked old q) (has_step m n a q) (sym (mark q) ∙ t)) [
       | inl o ↦ let (p, lp, s, c) = (h.each q l).0 o in (p, omega arith, s, c)
       | inr c ↦ (n, omega arith, marked, c)
     ]
 
     from : (q : ℕ) → q < m.states → (p : ℕ) × (p < n + 1) × IsTrue (is_marked members p)
-        × Contains (targets_of m p a) q → IsTrue (is_marked new q)
+        × IsTrue (has_step m p a q) → IsTrue (is_marked new q)
     from q l (p, lp, s, c) = elim (cases_lt p n) [
-      | inl i ↦ (added.each q).1 (inl ((h.each q l).1 (p, i, s, c)))
-      | inr i ↦ let e : p ≡ n =
-          omega arith in (added.each q).1 (inr (subst (λ p. Contains (targets_of m p a) q) e c))
+      | inl i ↦ mark q ∙ rw ((h.each q l).1 (p, i, s, c)) (true-or (has_step m n a q))
+      | inr i ↦
+          let e : p ≡ n = omega arith in
+          let last : has_step m n a q ≡ true = subst (λ p. IsTrue (has_step m p a q)) e c in
+          mark q ∙ rw last (or-true (is_marked old q))
     ]
 
 -- states that are no members add nothing
@@ -245,11 +203,11 @@ skipped_below m members a n k marks g bare h =
     record { long = h.long; each = λ q l. (to q l, from q l) }
   where
     to : (q : ℕ) → q < m.states → IsTrue (is_marked marks q)
-        → (p : ℕ) × (p < k) × IsTrue (is_marked members p) × Contains (targets_of m p a) q
+        → (p : ℕ) × (p < k) × IsTrue (is_marked members p) × IsTrue (has_step m p a q)
     to q l t = let (p, lp, s, c) = (h.each q l).0 t in (p, omega arith, s, c)
 
     from : (q : ℕ) → q < m.states → (p : ℕ) × (p < k) × IsTrue (is_marked members p)
-        × Contains (targets_of m p a) q → IsTrue (is_marked marks q)
+        × IsTrue (has_step m p a q) → IsTrue (is_marked marks q)
     from q l (p, lp, s, c) = elim (cases_lt p n) [
       | inl i ↦ (h.each q l).1 (p, i, s, c)
       | inr i ↦ absurd (both_ways (is_marked members p) (bare p i lp) s)
@@ -263,8 +221,8 @@ all_below m members a marks good h = ext_get_or false marks (successor m members
     let hq : q < m.states = subst (λ n. q < n) h.long l in
     let s = successor_marks m members a q good hq in
     equal_tests (is_marked marks q) (is_marked (successor m members a) q)
-    (λ t. let (p, lp, i, c) = (h.each q hq).0 t in s.1 (p, lp, i, (target_listed m p a q).1 c))
-    (λ t. let (p, lp, i, f) = s.0 t in (h.each q hq).1 (p, lp, i, (target_listed m p a q).0 f)))
+    (λ t. let (p, lp, i, c) = (h.each q hq).0 t in s.1 (p, lp, i, c))
+    (λ t. let (p, lp, i, f) = s.0 t in (h.each q hq).1 (p, lp, i, f)))
 
 -- from a number on no state is a member
 pub all_walked : (m : Automaton) (members : List Bool) (a from : ℕ) (marks : List Bool)

@@ -1,11 +1,12 @@
 //! Sets of states of an automaton, as sets of numbers.
-ghost use Rattle.std.specs.Prelude.{◌≡◌, ◌<◌, ◌↔◌, length, IsTrue, IfOk, All};
-ghost use Rattle.syn_words.specs.Nfa.{IsSized};
-ghost use Rattle.subset_minimal.specs.Subsets.{successor, AreAdded, HasFinal};
+ghost use Rattle.std.specs.Prelude.{◌≡◌, ◌<◌, ◌↔◌, length, IsTrue, IfOk};
+ghost use Rattle.automata.specs.Nfa.{IsSized};
+ghost use Rattle.subset_minimal.specs.Subsets.{successor, HasFinal};
 
+use automata::Nfa;
 use number_set::NumberSet;
 use std::alloc::Global;
-use syn_words::{Memory, Nfa, Targets};
+use syn_words::Memory;
 
 /// The set of the initial states of an automaton.
 pub(crate) fn initial_set(alloc: Global, nfa: &Nfa) -> Result<NumberSet, Memory>
@@ -17,22 +18,17 @@ pub(crate) fn initial_set(alloc: Global, nfa: &Nfa) -> Result<NumberSet, Memory>
 }
 
 /// The set of the states to which the steps with a letter lead from the states of a set. Condition: a place for each
-/// state, and a letter in range. It takes time linear in the set's members and their targets, and in a 64th of the
-/// states.
-pub(crate) fn next_set(
-    set: &NumberSet,
-    targets: &Targets<'_>,
-    letter: u8,
-) -> Result<NumberSet, Memory>
-    requires sized { IsSized targets.now }
-    requires long { length set.now ≡ targets.now.states }
-    requires letter { letter < targets.now.letters }
-    ensures { IfOk result (λ next. next ≡ successor targets.now set.now letter) }
+/// state, and a letter in range. For each member it takes time linear in a 64th of the states.
+pub(crate) fn next_set(set: &NumberSet, nfa: &Nfa, letter: u8) -> Result<NumberSet, Memory>
+    requires sized { IsSized nfa.now }
+    requires long { length set.now ≡ nfa.now.states }
+    requires letter { letter < nfa.now.letters }
+    ensures { IfOk result (λ next. next ≡ successor nfa.now set.now letter) }
 {
     let mut next = set.bare()?;
     let mut members = set.members();
     while let Some(state) = members.next() {
-        add_all(&mut next, targets.row(state, letter));
+        next.union_with(nfa.row(state, letter));
     }
     Ok(next)
 }
@@ -49,14 +45,4 @@ pub(crate) fn has_final(set: &NumberSet, nfa: &Nfa) -> bool
         }
     }
     false
-}
-
-/// Adds states to a set. Condition: it has a place for each of them.
-fn add_all(set: &mut NumberSet, states: &[u32])
-    requires { All (λ q. q < length set.old) states.now }
-    ensures { AreAdded set.old states.now set.new }
-{
-    for &state in states {
-        set.insert(state);
-    }
 }

@@ -1,4 +1,0 @@
-pub mod Rows
-pub mod FlatRows
-pub mod Marks
-pub mod Steps

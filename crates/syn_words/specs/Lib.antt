@@ -1,4 +1,1 @@
 pub mod Alphabet
-pub mod Nfa
-pub mod Targets
-pub mod Acceptance

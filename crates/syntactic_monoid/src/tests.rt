@@ -3,12 +3,13 @@ ghost use Rattle.std.specs.Prelude.{◌≤◌, IfOk};
 ghost use Rattle.language_theory.specs.Words.{Over};
 
 use crate::{SynFault, Syntactic, syntactic_of};
+use automata::Nfa;
 use std::alloc::Global;
 use std::test::Fail;
 use std::thread::Threads;
 use subset_minimal::minimal;
 use syn_outside::OpenGate;
-use syn_words::{Memory, Nfa, Word};
+use syn_words::{Memory, Word};
 
 /// An automaton of `(ab)*` over ab; the minimal one has three states.
 fn ab_star(alloc: Global) -> Result<Nfa, Memory> {

@@ -2,7 +2,7 @@ use Rattle.std.proofs.Common.{◌∙◌, sym, ap, subst, ℕ}
 use Rattle.std.specs.Prelude.{Option}
 use Rattle.std.proofs.lemmas.Result.{err_from_is_err_and}
 use Rattle.language_theory.specs.Automaton.{Automaton}
-use Rattle.syn_words.specs.Nfa.{bare}
+use Rattle.automata.specs.Nfa.{bare}
 use Rattle.automaton_file.specs.declared.sources.Wrong.{Wrong}
 use Rattle.automaton_file.specs.LineText.{parts}
 use Rattle.automaton_file.specs.Reading.{automaton_of, IsReadFault, lines_from, steps_first_fault}

@@ -2,8 +2,8 @@ use Rattle.std.proofs.Common.{◌≡◌, ℕ, suc, ◌+◌, List, ◌++◌, ap, 
 use Rattle.std.specs.Prelude.{codes}
 use Rattle.std.specs.List.{flat_map, range_with_len}
 use Rattle.std.proofs.lemmas.Grind.{flat_map-append}
+use Rattle.language_theory.proofs.StepLists.{with_one_more}
 use Rattle.generated_file.specs.Generated.{head_lines, step_lines, text_of, generated_text}
-use Rattle.generated_file.proofs.States.{with_one_more}
 use Rattle.generated_file.proofs.text.generate_text.Goals as goal
 
 -- the lines of one state more

@@ -10,6 +10,6 @@ returns c =
     let bare : (q : ℕ) → walk.from ≤ q → is_marked walk.marks q ≡ false = search rules in
     let none = subst (λ (marks : List Bool). (q : ℕ) → walk.from ≤ q → is_marked marks q ≡ false)
     i.same bare in
-    all_walked c.args.targets.now c.args.set.now c.args.letter walk.from c.loop-next.next
+    all_walked c.args.nfa.now c.args.set.now c.args.letter walk.from c.loop-next.next
     c.requires.sized.automaton
     i.within none i.below

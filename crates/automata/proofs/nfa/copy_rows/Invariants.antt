@@ -1,0 +1,6 @@
+-- the rows so far are copied
+use Rattle.std.proofs.Common.{◌≡◌, take}
+use Rattle.automata.proofs.nfa.copy_rows.Given as goal
+
+abbrev pub invariant-loop-row : goal.invariant-loop-row
+invariant-loop-row l = l.copies.items ≡ take l.row-index l.rows
