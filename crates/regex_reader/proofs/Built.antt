@@ -1,12 +1,13 @@
 -- What is built is the position automaton.
 use Rattle.std.proofs.Common.{◌≡◌, ◌≢◌, ℕ, zero, suc, ◌+◌, ◌-◌, ◌<◌, ◌≤◌, Bool, true, false, IsTrue, ◌&&◌, ◌||◌, ◌==◌, ◌⊎◌, inl, inr, List, [], ◌∷◌, ◌++◌, length, replicate, set, get_or, refl, ap, sym, subst, ◌∙◌, arith, map, append_assoc}
 use Rattle.std.specs.Bool.{Decides}
-use Rattle.std.specs.List.{list_any}
+use Rattle.std.specs.List.{All, list_any}
+use Rattle.std.proofs.lemmas.List.Elements.{All-get_or}
 use Rattle.std.proofs.lemmas.List.{get_or-set_same, get_or-set_other, get_or-replicate, get_or_past, length-replicate}
 use Rattle.std.proofs.lemmas.Bool.{cases_lt}
 use Rattle.std.proofs.lemmas.Bool.Decides.{Decides-eqb, Decides-and, Decides-or, eqb_tells}
 use Rattle.language_theory.specs.Automaton.{Automaton, is_final, is_step, has_step}
-use Rattle.syn_words.specs.Nfa.{bare, with_initial}
+use Rattle.automata.specs.Nfa.{bare, with_initial}
 use Rattle.expression_theory.specs.Expression.{Tree, Means}
 use Rattle.expression_theory.specs.Positions.{positions, numbered, PositionWord, Begins, Follows, Ends, letter_of, StepsTo, IsFinalPosition, IsPositions}
 use Rattle.expression_theory.specs.FirstLast.{has, has_empty, firsts, lasts, follows}
@@ -16,7 +17,7 @@ use Rattle.expression_theory.proofs.FirstLast.{has_empty_decides, firsts_decide,
 use Rattle.expression_theory.proofs.Acceptance.{steps_below}
 use Rattle.regex_reader.specs.Marks.{Table, is_marked, IsAdded}
 use Rattle.regex_reader.specs.Parts.{IsPart, IsFollowing, Summary}
-use Rattle.regex_reader.specs.Growth.{HasFinals, HasGrown, IsTableStep, IsBuilt}
+use Rattle.regex_reader.specs.Growth.{HasFinals, HasGrown, IsTableStep, IsEarlyStep, IsBuilt}
 use Rattle.regex_reader.proofs.Tables.{or_nothing}
 
 -- the table has the steps of the automaton, 0 being the state before all positions
@@ -148,8 +149,8 @@ built_positions t k r m xs a part table e built = record {
     to : (p x q : ℕ) → IsTrue (has_step a p x q) → StepsTo t p q × (letter_of t q ≡ x)
     to p x q h = by ((built.steps p x q).0 h)
       where
-        by : IsTableStep m xs (length xs + 1) p x q → StepsTo t p q × (letter_of t q ≡ x)
-        by (b, c, d, l, f) =
+        by : IsTableStep m xs p x q → StepsTo t p q × (letter_of t q ≡ x)
+        by (b, f, (c, d, l)) =
             let w = table.width in
             let n : length xs ≡ length (positions t) = ap length e in (
               (step_decides t p q).0 (sym (table.each p q (omega arith) (omega arith)) ∙ f),
@@ -166,7 +167,7 @@ built_positions t k r m xs a part table e built = record {
         let marked : is_marked m p q ≡ true = table.each p q (omega arith) (omega arith)
         ∙ (step_decides t p q).1 s in
         (built.steps p x q).1
-        (omega arith, d, omega arith, sym (ap (λ l. get_or l (q - 1) 0) e ∙ l), marked)
+        (omega arith, marked, (d, omega arith, sym (ap (λ l. get_or l (q - 1) 0) e ∙ l)))
 
 none_set : (n p : ℕ) → get_or (replicate n false) p false ≡ false
 none_set n p = by (cases_lt p n)
@@ -192,9 +193,9 @@ start_set n p h = by (eqb_tells 0 p)
 pub built_from : (n k : ℕ) (he : Bool) (last : List ℕ) (table : Table) (xs : List ℕ)
     (a b c d : Automaton) → a ≡ with_initial (bare n k) 0 → HasFinals a b (λ p. he && (0 == p))
     → HasFinals b c (has last) →
-    HasGrown c d (IsTableStep table xs table.width) → n ≡ length xs + 1
-    → table.width ≡ length xs + 1 → IsBuilt he last table xs k d
-built_from n k he last table xs a b c d e f g h w v = record {
+    HasGrown c d (IsEarlyStep table xs k) → n ≡ length xs + 1 → All (λ x. x < k) xs
+    → IsBuilt he last table xs k d
+built_from n k he last table xs a b c d e f g h w below = record {
   states = h.states ∙ g.states ∙ f.states ∙ ap (λ (m : Automaton). m.states) e ∙ w;
   letters = h.letters ∙ g.letters ∙ f.letters ∙ ap (λ (m : Automaton). m.letters) e;
   initial = λ p.
@@ -213,13 +214,15 @@ built_from n k he last table xs a b c d e f g h w v = record {
         let j : list_any (is_step p x q) [] ≡ true = sym (ap (list_any (is_step p x q)) s) ∙ i in
         let l : false ≡ true = j in cc
 
-    to : (p x q : ℕ) → IsTrue (has_step d p x q) → IsTableStep table xs (length xs + 1) p x q
+    to : (p x q : ℕ) → IsTrue (has_step d p x q) → IsTableStep table xs p x q
     to p x q i = by ((h.steps p x q).0 i)
       where
-        by : IsTrue (has_step c p x q) ⊎ IsTableStep table xs table.width p x q
-            → IsTableStep table xs (length xs + 1) p x q
+        by : IsTrue (has_step c p x q) ⊎ IsEarlyStep table xs k p x q → IsTableStep table xs p x q
         by (inl j) = absurd (none p x q j)
-        by (inr j) = subst (λ s. IsTableStep table xs s p x q) v j
+        by (inr (l, j)) = j
 
-    from : (p x q : ℕ) → IsTableStep table xs (length xs + 1) p x q → IsTrue (has_step d p x q)
-    from p x q j = (h.steps p x q).1 (inr (subst (λ s. IsTableStep table xs s p x q) (sym v) j))
+    from : (p x q : ℕ) → IsTableStep table xs p x q → IsTrue (has_step d p x q)
+    from p x q (i, j, (l, m, e)) =
+        let small : get_or xs (q - 1) 0 < k =
+        All-get_or (λ x. x < k) xs (q - 1) 0 (omega arith) below in
+        (h.steps p x q).1 (inr (omega arith, (i, j, (l, m, e))))

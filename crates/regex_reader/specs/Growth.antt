@@ -1,5 +1,6 @@
 -- What an automaton gains.
 use Rattle.std.specs.Prelude.{◌≡◌, ℕ, ◌-◌, ◌+◌, ◌<◌, ◌≤◌, ◌&&◌, ◌||◌, ◌==◌, ◌⊎◌, ◌↔◌, Bool, IsTrue, List, length, slice_index}
+use Rattle.language_theory.specs.Automaton as automaton
 use Rattle.language_theory.specs.Automaton.{Automaton, is_initial, is_final, has_step}
 use Rattle.expression_theory.specs.FirstLast.{has}
 use Rattle.regex_reader.specs.Marks.{Table, is_marked}
@@ -21,22 +22,35 @@ pub record HasGrown (old new : Automaton) (F : ℕ → ℕ → ℕ → Type 0) :
   pub finals : new.finals ≡ old.finals
   pub steps : (p a q : ℕ) → IsTrue (has_step new p a q) ↔ (IsTrue (has_step old p a q) ⊎ F p a q)
 
--- the step of a pair that is marked
-abbrev pub IsOneStep : Table → ℕ → ℕ → ℕ → ℕ → ℕ → ℕ → Type 0
-IsOneStep table state letter position p a q =
-    (p ≡ state) × (a ≡ letter) × (q ≡ position) × IsTrue (is_marked table state position)
+-- q is one of the first k positions, and has the letter a
+abbrev pub IsPosition : List ℕ → ℕ → ℕ → ℕ → Type 0
+IsPosition letters k a q = (1 ≤ q) × (q ≤ k) × (a ≡ slice_index letters (q - 1))
 
--- the steps from a state to the first k positions, whose letters are given
-abbrev pub IsRowStep : Table → List ℕ → ℕ → ℕ → ℕ → ℕ → ℕ → Type 0
-IsRowStep table letters state k p a q =
-    (p ≡ state) × (1 ≤ q) × (q ≤ k) × (a ≡ slice_index letters (q - 1))
-    × IsTrue (is_marked table state q)
+-- the set of those among the first k positions that have the letter a
+pub record HasPositions (letters : List ℕ) (k a : ℕ) (marks : List Bool) : Type 0 where
+  pub long : length marks ≡ length letters + 1
+  pub each : (q : ℕ) → IsTrue (automaton.is_marked marks q) ↔ IsPosition letters k a q
 
--- the steps from the states below a number to all positions
-abbrev pub IsTableStep : Table → List ℕ → ℕ → ℕ → ℕ → ℕ → Type 0
-IsTableStep table letters states p a q =
-    (p < states) × (1 ≤ q) × (q ≤ length letters) × (a ≡ slice_index letters (q - 1))
-    × IsTrue (is_marked table p q)
+-- the steps by a letter from a state to those positions of a set that are marked
+abbrev pub IsRowStep : Table → List Bool → ℕ → ℕ → ℕ → ℕ → ℕ → Type 0
+IsRowStep table found state letter p a q =
+    (p ≡ state) × (a ≡ letter) × IsTrue (is_marked table p q)
+    × IsTrue (automaton.is_marked found q)
+
+-- such steps from the states below a number
+abbrev pub IsLetterStep : Table → List Bool → ℕ → ℕ → ℕ → ℕ → ℕ → Type 0
+IsLetterStep table found letter states p a q =
+    (p < states) × (a ≡ letter) × IsTrue (is_marked table p q)
+    × IsTrue (automaton.is_marked found q)
+
+-- the steps from each state to the positions that are marked, by their letters
+abbrev pub IsTableStep : Table → List ℕ → ℕ → ℕ → ℕ → Type 0
+IsTableStep table positions p a q =
+    (p < table.width) × IsTrue (is_marked table p q) × IsPosition positions (length positions) a q
+
+-- those of these steps whose letters are below a number
+abbrev pub IsEarlyStep : Table → List ℕ → ℕ → ℕ → ℕ → ℕ → Type 0
+IsEarlyStep table positions k p a q = (a < k) × IsTableStep table positions p a q
 
 -- what is built from the positions that can end a word, the table and the letters of the positions
 pub record IsBuilt (has_empty : Bool) (last : List ℕ) (table : Table) (positions : List ℕ) (k : ℕ)
@@ -46,4 +60,4 @@ pub record IsBuilt (has_empty : Bool) (last : List ℕ) (table : Table) (positio
   pub initial : (p : ℕ) → is_initial m p ≡ (0 == p)
   pub finals : (p : ℕ) → is_final m p ≡ ((has_empty && (0 == p)) || has last p)
   pub steps : (p a q : ℕ) → IsTrue (has_step m p a q)
-      ↔ IsTableStep table positions (length positions + 1) p a q
+      ↔ IsTableStep table positions p a q

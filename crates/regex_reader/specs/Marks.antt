@@ -1,5 +1,6 @@
--- A relation of numbers below a width, as a square table.
-use Rattle.std.specs.Prelude.{◌≡◌, ℕ, ◌+◌, ◌*◌, ◌<◌, ◌≤◌, Bool, false, ◌||◌, List, slice_index_or}
+-- A relation of numbers below a width, as a row of marks for each.
+use Rattle.std.specs.Prelude.{◌≡◌, ℕ, ◌+◌, ◌<◌, ◌≤◌, Bool, false, ◌||◌, List, [], length, All, slice_index_or}
+use Rattle.language_theory.specs.Automaton as automaton
 use Rattle.expression_theory.specs.Expression.{most_nodes}
 
 -- the greatest width of a table: an expression has no more letters than nodes, and before them
@@ -7,14 +8,28 @@ use Rattle.expression_theory.specs.Expression.{most_nodes}
 abbrev pub widest : ℕ
 widest = most_nodes + 1
 
--- a row for each number below the width, one behind the other
+-- a row of marks for each number below the width
 pub record Table : Type 0 where
   pub width : ℕ
-  pub places : List Bool
+  pub rows : List (List Bool)
+
+-- each row has a place for each number below the width
+pub record IsSquare (m : Table) : Type 0 where
+  pub long : length m.rows ≡ m.width
+  pub row : All (λ marks. length marks ≡ m.width) m.rows
+
+-- the row of a number
+abbrev pub row_of : Table → ℕ → List Bool
+row_of m p = slice_index_or m.rows p []
 
 -- whether the pair is there
 abbrev pub is_marked : Table → ℕ → ℕ → Bool
-is_marked m p q = slice_index_or m.places (p * m.width + q) false
+is_marked m p q = automaton.is_marked (row_of m p) q
+
+-- the numbers of f are added to a set, and nothing else changes
+pub record IsGained (old new : List Bool) (f : ℕ → Bool) : Type 0 where
+  pub long : length new ≡ length old
+  pub each : (q : ℕ) → automaton.is_marked new q ≡ (automaton.is_marked old q || f q)
 
 -- the pairs of f are added, and nothing else changes
 pub record IsAdded (old new : Table) (f : ℕ → ℕ → Bool) : Type 0 where

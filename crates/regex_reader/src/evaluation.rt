@@ -77,10 +77,10 @@ fn join(
 {
     if !have_words(&left, &right) {
         let positions = left.positions() + right.positions();
-        marks.clear_rows(position, position + positions);
+        marks.clear_rows(position, position + positions)?;
         return Ok(Part::bare(alloc, false, positions));
     }
-    marks.add_pairs(left.last(), right.first());
+    marks.add_pairs(left.last(), right.first())?;
     let part = behind(left, right)?;
     Ok(part)
 }
@@ -99,15 +99,15 @@ fn read_cat(parts: &mut Vec<Part>, marks: &mut Marks, position: u32) -> Result<(
 }
 
 /// The part once or more: each position that can begin a word then follows each that can end one.
-fn repeated(part: Part, marks: &mut Marks) -> Part
+fn repeated(part: Part, marks: &mut Marks) -> Result<Part, Memory>
     requires { CanRepeat part marks.old }
-    ensures repeated { HasRepeated part marks.old result marks.new }
+    ensures repeated { IfOk result (λ r. HasRepeated part marks.old r marks.new) }
     ensures width { marks.new.width ≡ marks.old.width }
 {
     if !part.is_closed() {
-        marks.add_pairs(part.last(), part.first());
+        marks.add_pairs(part.last(), part.first())?;
     }
-    part.closed()
+    Ok(part.closed())
 }
 
 /// The part once or not.
@@ -126,7 +126,7 @@ fn read_star(parts: &mut Vec<Part>, marks: &mut Marks, position: u32) -> Result<
     ensures width { marks.new.width ≡ marks.old.width }
 {
     let part = take_one(parts);
-    let once_or_more = repeated(part, marks);
+    let once_or_more = repeated(part, marks)?;
     let part = optional(once_or_more);
     parts.push(part)?;
     Ok(())
@@ -141,7 +141,7 @@ fn read_plus(parts: &mut Vec<Part>, marks: &mut Marks, position: u32) -> Result<
     ensures width { marks.new.width ≡ marks.old.width }
 {
     let part = take_one(parts);
-    let part = repeated(part, marks);
+    let part = repeated(part, marks)?;
     parts.push(part)?;
     Ok(())
 }

@@ -2,23 +2,25 @@
 ghost use Rattle.std.specs.Prelude.{◌≡◌, ◌+◌, ◌++◌, ◌∷◌, [], ◌<◌, ◌≤◌, ◌&&◌, ◌==◌, ℕ, ◌↔◌, List, length, IfOk, OnOk};
 ghost use Rattle.std.specs.List.{All};
 ghost use Rattle.language_theory.specs.Automaton.{Automaton, Accepts};
-ghost use Rattle.syn_words.specs.Nfa.{IsSized};
+ghost use Rattle.automata.specs.Nfa.{IsSized};
 ghost use Rattle.expression_theory.specs.Expression.{Means};
 ghost use Rattle.expression_theory.specs.Positions.{IsPositions, IsWithin};
 ghost use Rattle.expression_theory.specs.FirstLast.{has};
 ghost use Rattle.expression_theory.specs.Polish as notation;
 ghost use Rattle.regex_reader.specs.Expressions.{tree_of};
 ghost use Rattle.regex_reader.specs.Marks.{widest, is_marked};
-ghost use Rattle.regex_reader.specs.Growth.{HasFinals, HasGrown, IsOneStep, IsRowStep, IsTableStep, IsBuilt};
+ghost use Rattle.regex_reader.specs.Growth.{HasFinals, HasGrown, HasPositions, IsRowStep, IsLetterStep, IsEarlyStep, IsBuilt};
 
 use crate::Expr;
 use crate::evaluation::evaluate;
 use crate::marks::Marks;
 use crate::parts::Part;
 use crate::polish::polish;
+use automata::Nfa;
 use expression_theory::Node;
+use number_set::NumberSet;
 use std::alloc::Global;
-use syn_words::{Memory, Nfa};
+use syn_words::Memory;
 
 /// Appends the letter of a node, if it is one.
 fn push_letter(node: Node, letters: &mut Vec<u8>) -> Result<(), Memory>
@@ -64,55 +66,75 @@ fn set_finals(nfa: &mut Nfa, states: &[u32])
     }
 }
 
-/// Adds the step from a state to a position, where the position can come next.
-fn add_marked_step(
+/// The positions that have a letter, where the letters of all positions are given. State 0 is no position.
+fn positions_with(alloc: Global, positions: &[u8], letter: u8) -> Result<NumberSet, Memory>
+    requires { length positions.now < widest }
+    ensures { IfOk result (HasPositions positions.now (length positions.now) letter) }
+{
+    let mut found = NumberSet::empty(alloc, positions.len() as u32 + 1)?;
+    for (place, other) in positions.iter().enumerate() {
+        if *other == letter {
+            found.insert(place as u32 + 1);
+        }
+    }
+    Ok(found)
+}
+
+/// Adds the steps by a letter from a state, where the positions that have the letter are given.
+fn add_steps(
     nfa: &mut Nfa,
     marks: &Marks,
     state: u32,
     letter: u8,
-    position: u32,
+    found: &NumberSet,
 ) -> Result<(), Memory>
     requires states { nfa.old.states ≡ marks.now.width }
     requires state { state < marks.now.width }
     requires letter { letter < nfa.old.letters }
-    requires position { position < marks.now.width }
-    ensures { OnOk result (HasGrown nfa.old nfa.new (IsOneStep marks.now state letter position)) }
+    requires long { length found.now ≡ marks.now.width }
+    ensures { OnOk result (HasGrown nfa.old nfa.new (IsRowStep marks.now found.now state letter)) }
 {
-    if marks.has(state, position) {
-        nfa.add_step(state, letter, position)?;
+    let next = marks.row(state);
+    if next.meets(found) {
+        let mut row = next.copy()?;
+        row.intersect_with(found);
+        nfa.add_row(state, letter, row);
     }
     Ok(())
 }
 
-/// Adds the steps from one state, where the letters of the positions are given.
-fn add_row(nfa: &mut Nfa, marks: &Marks, letters: &[u8], state: u32) -> Result<(), Memory>
+/// Adds the steps by a letter from each state, where the positions that have the letter are given.
+fn add_letter(nfa: &mut Nfa, marks: &Marks, letter: u8, found: &NumberSet) -> Result<(), Memory>
     requires states { nfa.old.states ≡ marks.now.width }
-    requires state { state < marks.now.width }
-    requires letters { All (λ a. a < nfa.old.letters) letters.now }
-    requires width { marks.now.width ≡ length letters.now + 1 }
-    requires narrow { marks.now.width ≤ widest }
+    requires letter { letter < nfa.old.letters }
+    requires long { length found.now ≡ marks.now.width }
     ensures { OnOk result
-        (HasGrown nfa.old nfa.new (IsRowStep marks.now letters.now state (length letters.now))) }
+        (HasGrown nfa.old nfa.new (IsLetterStep marks.now found.now letter marks.now.width)) }
 {
-    for (place, letter) in letters.iter().enumerate() {
-        let position = place as u32 + 1;
-        add_marked_step(nfa, marks, state, *letter, position)?;
+    for state in 0..marks.width() as u32 {
+        add_steps(nfa, marks, state, letter, found)?;
     }
     Ok(())
 }
 
-/// Adds the steps from each state, where the letters of the positions are given.
-fn add_rows(nfa: &mut Nfa, marks: &Marks, letters: &[u8]) -> Result<(), Memory>
+/// Adds the steps by each letter from each state, where the letters of the positions are given.
+fn add_letters(
+    alloc: Global,
+    nfa: &mut Nfa,
+    marks: &Marks,
+    positions: &[u8],
+    letters: u8,
+) -> Result<(), Memory>
     requires states { nfa.old.states ≡ marks.now.width }
-    requires letters { All (λ a. a < nfa.old.letters) letters.now }
-    requires width { marks.now.width ≡ length letters.now + 1 }
+    requires letters { nfa.old.letters ≡ letters }
+    requires width { marks.now.width ≡ length positions.now + 1 }
     requires narrow { marks.now.width ≤ widest }
     ensures { OnOk result
-        (HasGrown nfa.old nfa.new (IsTableStep marks.now letters.now marks.now.width)) }
+        (HasGrown nfa.old nfa.new (IsEarlyStep marks.now positions.now letters)) }
 {
-    let states = letters.len() as u32 + 1;
-    for state in 0..states {
-        add_row(nfa, marks, letters, state)?;
+    for letter in 0..letters {
+        let found = positions_with(alloc, positions, letter)?;
+        add_letter(nfa, marks, letter, &found)?;
     }
     Ok(())
 }
@@ -138,7 +160,7 @@ fn build(
     nfa.set_initial(0);
     set_final_if(&mut nfa, part.has_empty(), 0);
     set_finals(&mut nfa, part.last());
-    add_rows(&mut nfa, marks, positions)?;
+    add_letters(alloc, &mut nfa, marks, positions, letters as u8)?;
     Ok(nfa)
 }
 

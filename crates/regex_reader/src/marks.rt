@@ -1,44 +1,54 @@
 //! A relation of numbers below a width.
-ghost use Rattle.std.specs.Prelude.{◌≡◌, ℕ, ◌+◌, ◌*◌, ◌<◌, ◌≤◌, Bool, false, ◌&&◌, ◌==◌, List, length, slice_index_or, IfOk};
+ghost use Rattle.std.specs.Prelude.{◌≡◌, ◌≢◌, ℕ, ◌+◌, ◌<◌, ◌≤◌, Bool, false, ◌&&◌, ◌==◌, List, length, replicate, IfOk, OnOk};
 ghost use Rattle.std.specs.List.{All};
 ghost use Rattle.expression_theory.specs.FirstLast.{has};
-ghost use Rattle.regex_reader.specs.Marks.{widest, Table, is_marked, IsAdded, IsCleared};
+ghost use Rattle.language_theory.specs.Automaton as automaton;
+ghost use Rattle.regex_reader.specs.Marks.{widest, Table, row_of, is_marked, IsGained, IsAdded, IsCleared};
 
+use number_set::NumberSet;
 use std::alloc::Global;
 use std::marker::Model;
 use syn_words::Memory;
 
-/// Sets the places from `from` on and below `to` to false.
-fn clear(places: &mut [bool], from: usize, to: usize)
-    requires order { from ≤ to }
-    requires to { to ≤ length places.old }
-    ensures cleared { (k : ℕ) → from ≤ k → k < to → slice_index_or places.new k false ≡ false }
-    ensures before { (k : ℕ) → k < from
-        → slice_index_or places.new k false ≡ slice_index_or places.old k false }
-    ensures behind { (k : ℕ) → to ≤ k
-        → slice_index_or places.new k false ≡ slice_index_or places.old k false }
+/// Puts each number of a list into a set.
+fn insert_all(set: &mut NumberSet, numbers: &[u32])
+    requires { All (λ q. q < length set.old) numbers.now }
+    ensures { IsGained set.old set.new (has numbers.now) }
 {
-    for place in from..to {
-        places[place] = false;
+    for number in numbers {
+        set.insert(*number);
     }
 }
 
-/// A relation of numbers below a width, as a square table.
+/// A set with no member for each number below a width.
+fn bare_rows(alloc: Global, width: usize) -> Result<Vec<NumberSet>, Memory>
+    requires { width ≤ widest }
+    ensures { IfOk result (λ rows. rows.items ≡ replicate width (replicate width false)) }
+{
+    let mut rows = Vec::with_capacity(alloc, width)?;
+    for _ in 0..width {
+        rows.push(NumberSet::empty(alloc, width as u32)?)?;
+    }
+    Ok(rows)
+}
+
+/// A relation of numbers below a width: for each of them the set of those to which it is related, 64 marks to a word.
 #[derive(Drop)]
 pub struct Marks {
     width: usize,
-    places: Vec<bool>,
+    rows: Vec<NumberSet>,
 }
 
 impl Model for Marks {
-    ghost use Rattle.std.specs.Prelude.{◌≡◌, ◌*◌, ◌≤◌, length};
-    ghost use Rattle.regex_reader.specs.Marks.{widest, Table};
+    ghost use Rattle.std.specs.Prelude.{◌≤◌};
+    ghost use Rattle.regex_reader.specs.Marks.{widest, Table, IsSquare};
 
     ghost Value = { Table };
 
-    ghost view = { λ m. record { width = m.width; places = m.places.items } };
+    ghost view = { λ m. record { width = m.width; rows = m.rows.items } };
 
-    ghost invariant = { λ m. (length m.places.items ≡ m.width * m.width) × (m.width ≤ widest) };
+    ghost invariant = { λ m. IsSquare (record { width = m.width; rows = m.rows.items })
+        × (m.width ≤ widest) };
 }
 
 impl Marks {
@@ -47,10 +57,8 @@ impl Marks {
         requires { width ≤ widest }
         ensures { IfOk result (λ m. (m.width ≡ width) × ((p q : ℕ) → is_marked m p q ≡ false)) }
     {
-        Ok(Marks {
-            width,
-            places: vec![in alloc; false; width * width]?,
-        })
+        let rows = bare_rows(alloc, width)?;
+        Ok(Marks { width, rows })
     }
 
     /// The width.
@@ -61,33 +69,47 @@ impl Marks {
         self.width
     }
 
-    /// Whether the pair is there.
-    pub fn has(&self, p: u32, q: u32) -> bool
+    /// The set of the numbers to which a number is related.
+    pub fn row(&self, p: u32) -> &NumberSet
         requires p { p < self.now.width }
-        requires q { q < self.now.width }
-        ensures { result ≡ is_marked self.now p q }
+        ensures row { result.now ≡ row_of self.now p }
+        ensures long { length result.now ≡ self.now.width }
     {
-        self.places[p as usize * self.width + q as usize]
+        &self.rows[p as usize]
     }
 
-    /// Takes out each pair whose first number is from `from` on and below `to`.
-    pub fn clear_rows(&mut self, from: u32, to: u32)
+    /// A set with no member that has a place for each number below the width.
+    fn no_numbers(&self) -> Result<NumberSet, Memory>
+        ensures { IfOk result (λ s. s ≡ replicate self.now.width false) }
+    {
+        let set = NumberSet::empty(*self.rows.allocator(), self.width as u32)?;
+        Ok(set)
+    }
+
+    /// Takes out each pair of a number with one that is not in the set.
+    fn keep_in_row(&mut self, p: u32, set: &NumberSet)
+        requires p { p < self.old.width }
+        requires long { length set.now ≡ self.old.width }
+        ensures width { self.new.width ≡ self.old.width }
+        ensures here { (q : ℕ) → is_marked self.new p q
+            ≡ (is_marked self.old p q && automaton.is_marked set.now q) }
+        ensures rest { (i q : ℕ) → i ≢ p → is_marked self.new i q ≡ is_marked self.old i q }
+    {
+        self.rows[p as usize].intersect_with(set);
+    }
+
+    /// Takes out each pair whose first number is from `from` on and below `to`. After `Memory` nothing has changed.
+    pub fn clear_rows(&mut self, from: u32, to: u32) -> Result<(), Memory>
         requires from { from ≤ to }
         requires to { to ≤ self.old.width }
-        ensures { IsCleared self.old self.new from to }
+        ensures cleared { OnOk result (IsCleared self.old self.new from to) }
+        ensures width { self.new.width ≡ self.old.width }
     {
-        let start = from as usize * self.width;
-        let end = to as usize * self.width;
-        clear(&mut self.places, start, end);
-    }
-
-    /// Adds a pair.
-    pub fn add(&mut self, p: u32, q: u32)
-        requires p { p < self.old.width }
-        requires q { q < self.old.width }
-        ensures { IsAdded self.old self.new (λ i j. (p == i) && (q == j)) }
-    {
-        self.places[p as usize * self.width + q as usize] = true;
+        let none = self.no_numbers()?;
+        for p in from..to {
+            self.keep_in_row(p, &none);
+        }
+        Ok(())
     }
 
     /// Adds the pairs of p with each of the list.
@@ -96,19 +118,31 @@ impl Marks {
         requires to { All (λ q. q < self.old.width) to.now }
         ensures { IsAdded self.old self.new (λ i j. (p == i) && has to.now j) }
     {
-        for q in to {
-            self.add(p, *q);
-        }
+        insert_all(&mut self.rows[p as usize], to);
     }
 
-    /// Adds the pairs of each of the first list with each of the second.
-    pub fn add_pairs(&mut self, from: &[u32], to: &[u32])
+    /// Adds the pairs of p with each of the set.
+    fn add_set(&mut self, p: u32, set: &NumberSet)
+        requires p { p < self.old.width }
+        requires long { length set.now ≡ self.old.width }
+        ensures { IsAdded self.old self.new (λ i j. (p == i) && automaton.is_marked set.now j) }
+    {
+        self.rows[p as usize].union_with(set);
+    }
+
+    /// Adds the pairs of each of the first list with each of the second. After `Memory` nothing has changed.
+    pub fn add_pairs(&mut self, from: &[u32], to: &[u32]) -> Result<(), Memory>
         requires from { All (λ q. q < self.old.width) from.now }
         requires to { All (λ q. q < self.old.width) to.now }
-        ensures { IsAdded self.old self.new (λ i j. has from.now i && has to.now j) }
+        ensures added { OnOk result
+            (IsAdded self.old self.new (λ i j. has from.now i && has to.now j)) }
+        ensures width { self.new.width ≡ self.old.width }
     {
+        let mut set = self.no_numbers()?;
+        insert_all(&mut set, to);
         for p in from {
-            self.add_row(*p, to);
+            self.add_set(*p, &set);
         }
+        Ok(())
     }
 }

@@ -13,7 +13,7 @@ returns-then-not-have_words-clause-joined c = λ s t ts hl hr f.
     c.clear_rows.new.self hl hr f
     (sym c.have_words.ensures ∙ c.if-not-have_words.true)
     (subst (λ n. IsCleared c.args.marks.now c.clear_rows.new.self c.args.position
-    (c.args.position + n)) count c.clear_rows.ensures)
+    (c.args.position + n)) count c.in_ok-clear_rows.ensures.cleared)
     k.word k.empty (k.positions ∙ count) k.first k.last
 
 pub returns-clause-joined : goal.returns-clause-joined
@@ -24,7 +24,8 @@ returns-clause-joined c = λ s t ts hl hr f.
     subst (λ xs. IsAdded c.args.marks.now c.add_pairs.new.self
     (λ p q. has c.args.left.last p && has xs q)) c.first.ensures
     (subst (λ xs. IsAdded c.args.marks.now c.add_pairs.new.self
-    (λ p q. has xs p && has c.first.result.now q)) c.last.ensures c.add_pairs.ensures) in
+    (λ p q. has xs p && has c.first.result.now q)) c.last.ensures
+    c.in_ok-add_pairs.ensures.added) in
     joined_live c.args.position s t ts c.args.left c.args.right c.in_ok-part.part c.args.marks.now
     c.add_pairs.new.self hl hr f
     (sym c.have_words.ensures ∙ c.if-not-have_words.false) added k.word k.empty k.closed k.positions

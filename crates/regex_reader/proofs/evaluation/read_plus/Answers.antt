@@ -5,15 +5,15 @@ pub take_one-part-requires : goal.take_one-part-requires
 take_one-part-requires c =
     enough_parts 1 c.args.position c.args.parts.now.items c.args.marks.now c.requires
 
-pub repeated-part-requires : goal.repeated-part-requires
-repeated-part-requires c =
+pub repeated-requires : goal.repeated-requires
+repeated-requires c =
     can_repeat c.args.position c.args.parts.now.items c.take_one-part.new.parts.items
     c.take_one-part.result c.args.marks.now c.requires c.take_one-part.ensures
 
 pub returns-clause-combined : goal.returns-clause-combined
 returns-clause-combined c =
     combine_plus c.args.position c.args.parts.now.items c.take_one-part.new.parts.items
-    c.push.new.self.items c.take_one-part.result c.repeated-part.result c.args.marks.now
-    c.repeated-part.new.marks
-    c.take_one-part.ensures c.in_ok-push.ensures.items c.repeated-part.ensures.repeated
-    c.repeated-part.ensures.width
+    c.push.new.self.items c.take_one-part.result c.in_ok-part.part c.args.marks.now
+    c.repeated.new.marks
+    c.take_one-part.ensures c.in_ok-push.ensures.items c.in_ok-part.ensures.repeated
+    c.repeated.ensures.width

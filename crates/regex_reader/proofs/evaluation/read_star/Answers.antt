@@ -5,16 +5,16 @@ pub take_one-part-requires : goal.take_one-part-requires
 take_one-part-requires c =
     enough_parts 1 c.args.position c.args.parts.now.items c.args.marks.now c.requires
 
-pub repeated-once_or_more-requires : goal.repeated-once_or_more-requires
-repeated-once_or_more-requires c =
+pub repeated-requires : goal.repeated-requires
+repeated-requires c =
     can_repeat c.args.position c.args.parts.now.items c.take_one-part.new.parts.items
     c.take_one-part.result c.args.marks.now c.requires c.take_one-part.ensures
 
 pub returns-clause-combined : goal.returns-clause-combined
 returns-clause-combined c =
     combine_star c.args.position c.args.parts.now.items c.take_one-part.new.parts.items
-    c.push.new.self.items c.take_one-part.result c.repeated-once_or_more.result
+    c.push.new.self.items c.take_one-part.result c.in_ok-once_or_more.once_or_more
     c.optional-part.result c.args.marks.now
-    c.repeated-once_or_more.new.marks c.take_one-part.ensures c.in_ok-push.ensures.items
-    c.repeated-once_or_more.ensures.repeated c.repeated-once_or_more.ensures.width
+    c.repeated.new.marks c.take_one-part.ensures c.in_ok-push.ensures.items
+    c.in_ok-once_or_more.ensures.repeated c.repeated.ensures.width
     c.optional-part.ensures
