@@ -1,0 +1,102 @@
+-- Rows of marks of the states from which an automaton accepts a word.
+use Rattle.std.proofs.Common.{◌≡◌, ℕ, ◌+◌, ◌-◌, ◌<◌, ◌≤◌, ◌↔◌, inl, inr, List, [], ◌∷◌, Bool, true, false, IsTrue, length, get_or, set, drop, replicate, sym, subst, ◌∙◌, arith}
+use Rattle.std.proofs.lemmas.Bool.{both_ways}
+use Rattle.std.proofs.lemmas.List.{length-replicate, get_or-replicate, length-set, get_or-set_other}
+use Rattle.std.proofs.lemmas.Grind.{common_steps, get_or-set_at}
+use Rattle.language_theory.proofs.Numbers.{equal_or_not}
+use Rattle.language_theory.specs.Automaton.{Automaton, IsAutomaton, IsTarget, is_marked, has_step}
+use Rattle.automata.proofs.Rows.{no_step}
+use Rattle.acceptance.specs.Marks.{AreAccepting, AreBefore}
+
+-- a letter is put before a word
+pub accepting_before : (m : Automaton) (w : List ℕ) (a : ℕ) (marks before : List Bool)
+    → AreAccepting m w marks → AreBefore m a marks before → AreAccepting m (a ∷ w) before
+accepting_before m w a marks before h b = record {
+  long = b.long;
+  each = λ p hp. (
+    λ t. let (q, target, marked) = (b.each p hp).0 t in
+        (q, target, (h.each q target.0).0 marked),
+    λ x. let (q, target, accepted) = x in
+        (b.each p hp).1 (q, target, (h.each q target.0).1 accepted),
+  );
+}
+
+-- the final states are those from which the empty word is accepted
+pub accepting_finals : (m : Automaton) → IsAutomaton m → AreAccepting m [] m.finals
+accepting_finals m good = record { long = good.finals; each = λ p hp. (λ h. h, λ h. h) }
+
+pub accepting_next : (m : Automaton) (word : List ℕ) (place : ℕ) (marks : List Bool) → 0 < place
+    → place ≤ length word → AreAccepting m (get_or word (place - 1) 0 ∷ drop place word) marks
+    → AreAccepting m (drop (place - 1) word) marks
+accepting_next m word place marks h k good =
+    let same : drop (place - 1) word ≡ get_or word (place - 1) 0 ∷ drop place word =
+    grind (arith, common_steps) in
+    rw same good
+
+-- no step has a letter beyond the last one
+pub nothing_before : (m : Automaton) (a : ℕ) (marks : List Bool) → IsAutomaton m → m.letters ≤ a
+    → AreBefore m a marks (replicate m.states false)
+nothing_before m a marks good h = record {
+  long = length-replicate {A = Bool} m.states false;
+  each = λ p hp. (
+    λ t. absurd (both_ways (is_marked (replicate m.states false) p)
+        (get_or-replicate m.states p false false hp) t),
+    λ x. let (q, target, marked) = x in
+        absurd (both_ways (has_step m p a q) (no_step m p a q good (inr (inl h))) target.1),
+  );
+}
+
+-- the states below n are done, and the others are not marked
+pub record AreBeforeBelow (m : Automaton) (a : ℕ) (marks : List Bool) (n : ℕ)
+    (before : List Bool) : Type 0 where
+  pub long : length before ≡ m.states
+  pub done : (p : ℕ) → p < n → IsTrue (is_marked before p)
+      ↔ ((q : ℕ) × IsTarget m p a q × IsTrue (is_marked marks q))
+  pub rest : (p : ℕ) → n ≤ p → p < m.states → is_marked before p ≡ false
+
+pub none_below : (m : Automaton) (a : ℕ) (marks : List Bool)
+    → AreBeforeBelow m a marks 0 (replicate m.states false)
+none_below m a marks = record {
+  long = length-replicate {A = Bool} m.states false;
+  done = λ p h. absurd (omega arith);
+  rest = λ p g h. get_or-replicate m.states p false false h;
+}
+
+pub one_marked : (m : Automaton) (a : ℕ) (marks before : List Bool) (n : ℕ) → n < m.states
+    → ((q : ℕ) × IsTarget m n a q × IsTrue (is_marked marks q))
+    → AreBeforeBelow m a marks n before → AreBeforeBelow m a marks (n + 1) (set before n true)
+one_marked m a marks before n hn leads h = record {
+  long = length-set before n true ∙ h.long;
+  done = λ p hp. elim (equal_or_not p n) [
+    | inl e ↦ (
+      λ t. subst (λ (x : ℕ). (q : ℕ) × IsTarget m x a q × IsTrue (is_marked marks q)) (sym e) leads,
+      λ x. get_or-set_at before n p true false e (rw h.long hn),
+    )
+    | inr ne ↦ let old = h.done p (omega arith) in (
+      λ t. old.0 (sym (get_or-set_other before n p true false ne) ∙ t),
+      λ x. get_or-set_other before n p true false ne ∙ old.1 x,
+    )
+  ];
+  rest = λ p g hp. get_or-set_other before n p true false (λ e. omega arith)
+      ∙ h.rest p (omega arith) hp;
+}
+
+pub one_unmarked : (m : Automaton) (a : ℕ) (marks before : List Bool) (n : ℕ) → n < m.states
+    → (((q : ℕ) × IsTarget m n a q × IsTrue (is_marked marks q)) → ⊥)
+    → AreBeforeBelow m a marks n before → AreBeforeBelow m a marks (n + 1) before
+one_unmarked m a marks before n hn none h = record {
+  long = h.long;
+  done = λ p hp. elim (equal_or_not p n) [
+    | inl e ↦ (
+      λ t. absurd (both_ways (is_marked before p) (h.rest p (omega arith) (omega arith)) t),
+      λ x. absurd (none
+          (subst (λ (y : ℕ). (q : ℕ) × IsTarget m y a q × IsTrue (is_marked marks q)) e x)),
+    )
+    | inr ne ↦ h.done p (omega arith)
+  ];
+  rest = λ p g hp. h.rest p (omega arith) hp;
+}
+
+pub all_done : (m : Automaton) (a : ℕ) (marks before : List Bool) (n : ℕ) → m.states ≤ n
+    → AreBeforeBelow m a marks n before → AreBefore m a marks before
+all_done m a marks before n g h = record { long = h.long; each = λ p hp. h.done p (omega arith) }
