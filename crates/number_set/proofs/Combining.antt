@@ -1,17 +1,16 @@
 -- Two rows of marks that are put together word by word.
-use Rattle.std.proofs.Common.{◌≡◌, ℕ, ◌+◌, ◌*◌, ◌/◌, ◌%◌, ◌^◌, ◌<◌, ◌≤◌, ◌&&◌, ◌||◌, inl, inr, Bool, true, false, IsTrue, List, cond, length, get_or, set, map, bit_or, bit_and, max, min, w64, refl, ap, sym, subst, ◌∙◌, arith}
+use Rattle.std.proofs.Common.{◌≡◌, ℕ, ◌+◌, ◌*◌, ◌/◌, ◌%◌, ◌^◌, ◌<◌, ◌≤◌, ◌&&◌, ◌||◌, ◌⊎◌, ◌≢◌, inl, inr, Bool, true, false, IsTrue, List, replicate, cond, length, get_or, set, map, bit_or, bit_and, max, min, w64, refl, ap, sym, subst, ◌∙◌, arith}
 use Rattle.std.specs.List.{range_with_len}
 use Rattle.std.specs.Int.{bit_at, trailing_zeros}
-use Rattle.std.specs.Int.Bits.{or_zero_r}
 use Rattle.std.proofs.lemmas.Nat.{or_lt, and_le_l}
 use Rattle.std.proofs.lemmas.Nat.Bits.{same_from_bits_below, bit_at_or, bit_at_and, bit_at-zero, bit_at-trailing_zeros}
-use Rattle.std.proofs.lemmas.List.{ext_get_or, get_or-set_other, get_or_past, length-set}
+use Rattle.std.proofs.lemmas.List.{ext_get_or, get_or-set_other, get_or_past, length-set, get_or-replicate, length-replicate}
 use Rattle.std.proofs.lemmas.List.FromFn.{length-map-range_with_len, get_or-map-range_with_len}
 use Rattle.std.proofs.lemmas.Grind.{get_or-set_at}
 use Rattle.std.proofs.lemmas.Bool.{cases_lt, both_ways}
 use Rattle.language_theory.proofs.Numbers.{equal_or_not}
 use Rattle.language_theory.specs.Automaton.{is_marked}
-use Rattle.number_set.specs.Marks.{packed, word_at, IsUnion, IsIntersection, Meet}
+use Rattle.number_set.specs.Marks.{packed, word_at, AreWithin, IsWindowOf, HasGained, IsIntersection, Meet}
 use Rattle.number_set.proofs.Packing.{Holds, held_long, held_word, packed_long, packed_at, word_bit, word_small, place_cut}
 
 -- ---- two marks and two bits
@@ -54,6 +53,14 @@ and_alike = record {
   small = λ x y hx hy. let less = and_le_l x y in omega (arith, less);
   each = λ a b x y k e f. bit_at_and x y k ∙ rw (e, f) (lesser_bit a b);
 }
+
+-- ---- words that are 0
+
+zero_in_zeros : (n i : ℕ) → ◌≡◌ {A = ℕ} (get_or (replicate n 0) i 0) 0
+zero_in_zeros n i = elim (cases_lt i n) [
+  | inl l ↦ get_or-replicate n i 0 0 l
+  | inr g ↦ get_or_past (replicate n 0) i 0 (rw (length-replicate {A = ℕ} n 0) g)
+]
 
 -- ---- two rows
 
@@ -119,6 +126,33 @@ pub record AreCombinedBelow (g : ℕ → ℕ → ℕ) (old other now : List ℕ)
   pub below : (i : ℕ) → i < place → get_or now i 0 ≡ g (get_or old i 0) (get_or other i 0)
   pub above : (i : ℕ) → place ≤ i → get_or now i 0 ≡ get_or old i 0
 
+-- words that are 0 change nothing
+pub none_combined_before : (g : ℕ → ℕ → ℕ) (old other : List ℕ) (first last : ℕ)
+    → ((x : ℕ) → g x 0 ≡ x) → AreWithin first last other
+    → AreCombinedBelow g old other old first
+none_combined_before g old other first last rest h = record {
+  long = refl;
+  below = λ i l. sym (rest (get_or old i 0)) ∙ ap (λ (y : ℕ). g (get_or old i 0) y) (sym (h.before i l));
+  above = λ i l. refl;
+}
+
+pub none_combined_behind : (g : ℕ → ℕ → ℕ) (old other now : List ℕ) (first last place : ℕ)
+    → ((x : ℕ) → g x 0 ≡ x) → AreWithin first last other → last ≤ place
+    → AreCombinedBelow g old other now place → AreCombinedBelow g old other now (length other)
+none_combined_behind g old other now first last place rest h end c = record {
+  long = c.long;
+  below = λ i l. elim (cases_lt i place) [
+    | inl b ↦ c.below i b
+    | inr b ↦ c.above i b ∙ sym (rest (get_or old i 0))
+        ∙ ap (λ (y : ℕ). g (get_or old i 0) y) (sym (h.behind i (omega arith)))
+  ];
+  above = λ i l. elim (cases_lt i place) [
+    | inl b ↦ c.below i b ∙ ap (λ (y : ℕ). g (get_or old i 0) y) (h.behind i (omega (arith, h.within)))
+        ∙ rest (get_or old i 0)
+    | inr b ↦ c.above i b
+  ];
+}
+
 pub none_combined : (g : ℕ → ℕ → ℕ) (old other : List ℕ) → AreCombinedBelow g old other old 0
 none_combined g old other = record {
   long = refl;
@@ -176,7 +210,7 @@ module _ (f : Bool → Bool → Bool) (g : ℕ → ℕ → ℕ) (s t : ℕ) (v w
           ∙ ap (λ (m : ℕ). (m + 63) / 64) (combined_long f old other ∙ first.long)
 
 pub combined_union : (old other : List Bool) → length other ≤ length old
-    → IsUnion old other (combined either old other)
+    → HasGained old (combined either old other) (length old) (λ p. is_marked other p)
 combined_union old other short = record {
   long = combined_long either old other;
   each = λ p. combined_at either old other p refl short;
@@ -189,8 +223,137 @@ combined_intersection old other short = record {
   each = λ p. combined_at both old other p refl short;
 }
 
-pub or_keeps : (v w : List ℕ) (x : ℕ) → length w < length v → bit_or x 0 ≡ x
-or_keeps v w x l = or_zero_r x
+-- ---- the window of the words that are not 0
+
+-- outside a window that has the window of some words these are 0
+pub zero_outside : (first last from to : ℕ) (words : List ℕ)
+    → (first < last → (from ≤ first) × (last ≤ to)) → AreWithin first last words → (i : ℕ)
+    → (i < from) ⊎ (to ≤ i) → get_or words i 0 ≡ 0
+zero_outside first last from to words inside h i out = elim (cases_lt first last) [
+  | inl some ↦
+      let around = inside some in
+      elim out [
+        | inl b ↦ h.before i (omega (arith, b, around.0))
+        | inr b ↦ h.behind i (omega (arith, b, around.1))
+      ]
+  | inr none ↦ elim (cases_lt i first) [
+    | inl b ↦ h.before i b
+    | inr b ↦ h.behind i (omega (arith, b, none))
+  ]
+]
+
+pub combined_within : (g : ℕ → ℕ → ℕ) (old other now : List ℕ)
+    (first last other_first other_last : ℕ) (window : ℕ × ℕ) → g 0 0 ≡ 0
+    → length other ≤ length old → AreWithin first last old → AreWithin other_first other_last other
+    → IsWindowOf first last other_first other_last window
+    → AreCombinedBelow g old other now (length other) → AreWithin window.0 window.1 now
+combined_within g old other now first last other_first other_last window zeros short h k w c =
+    record {
+      order = w.order;
+      within = elim w.within [
+        | inl b ↦ omega (arith, b, h.within, c.long)
+        | inr b ↦ omega (arith, b, k.within, c.long, short)
+      ];
+      before = λ i l. each i (inl l);
+      behind = λ i l. each i (inr l);
+    }
+  where
+    each : (i : ℕ) → (i < window.0) ⊎ (window.1 ≤ i) → get_or now i 0 ≡ 0
+    each i out =
+        let a : get_or old i 0 ≡ 0 =
+        zero_outside first last window.0 window.1 old w.one h i out in
+        let b : get_or other i 0 ≡ 0 =
+        zero_outside other_first other_last window.0 window.1 other w.other k i out in
+        elim (cases_lt i (length other)) [
+          | inl l ↦ c.below i l ∙ rw (a, b) zeros
+          | inr l ↦ c.above i l ∙ a
+        ]
+
+pub lessened_within : (g : ℕ → ℕ → ℕ) (old other now : List ℕ) (first last place : ℕ)
+    → ((y : ℕ) → g 0 y ≡ 0) → AreWithin first last old → AreCombinedBelow g old other now place
+    → AreWithin first last now
+lessened_within g old other now first last place zeros h c = record {
+  order = h.order;
+  within = rw c.long h.within;
+  before = λ i l. each i (h.before i l);
+  behind = λ i l. each i (h.behind i l);
+}
+  where
+    each : (i : ℕ) → get_or old i 0 ≡ 0 → get_or now i 0 ≡ 0
+    each i a = elim (cases_lt i place) [
+      | inl l ↦ c.below i l ∙ rw a (zeros (get_or other i 0))
+      | inr l ↦ c.above i l ∙ a
+    ]
+
+pub none_within : (n : ℕ) → AreWithin 0 0 (replicate {A = ℕ} n 0)
+none_within n = record {
+  order = omega arith;
+  within = omega arith;
+  before = λ i l. absurd (omega (arith, l));
+  behind = λ i l. zero_in_zeros n i;
+}
+
+-- one more word that may be other than 0
+pub set_within : (first last place w : ℕ) (window : ℕ × ℕ) (words : List ℕ)
+    → place < length words → AreWithin first last words
+    → IsWindowOf first last place (place + 1) window
+    → AreWithin window.0 window.1 (set words place w)
+set_within first last place w window words within h u = record {
+  order = u.order;
+  within = elim u.within [
+    | inl b ↦ omega (arith, b, h.within, length-set words place w)
+    | inr b ↦ omega (arith, b, within, length-set words place w)
+  ];
+  before = λ i l. each i (inl l);
+  behind = λ i l. each i (inr l);
+}
+  where
+    around : (window.0 ≤ place) × (place + 1 ≤ window.1)
+    around = u.other (omega arith)
+
+    each : (i : ℕ) → (i < window.0) ⊎ (window.1 ≤ i) → get_or (set words place w) i 0 ≡ 0
+    each i out = get_or-set_other words place i w 0 (apart i out)
+        ∙ zero_outside first last window.0 window.1 words u.one h i out
+      where
+        apart : (i : ℕ) → (i < window.0) ⊎ (window.1 ≤ i) → i ≢ place
+        apart i (inl b) e = omega (arith, b, around.0, e)
+        apart i (inr b) e = omega (arith, b, around.1, e)
+
+-- ---- words that are put to 0
+
+-- the words of a window before a place are 0, and the others are still the old ones
+pub record AreClearedBelow (old now : List ℕ) (place : ℕ) : Type 0 where
+  pub long : length now ≡ length old
+  pub below : (i : ℕ) → i < place → get_or now i 0 ≡ 0
+  pub above : (i : ℕ) → place ≤ i → get_or now i 0 ≡ get_or old i 0
+
+pub none_cleared : (first last : ℕ) (old : List ℕ) → AreWithin first last old
+    → AreClearedBelow old old first
+none_cleared first last old h = record { long = refl; below = h.before; above = λ i l. refl }
+
+pub one_cleared : (old now : List ℕ) (place : ℕ) → place < length now
+    → AreClearedBelow old now place → AreClearedBelow old (set now place 0) (place + 1)
+one_cleared old now place within h = record {
+  long = length-set now place 0 ∙ h.long;
+  below = λ i l. elim (equal_or_not i place) [
+    | inl same ↦ get_or-set_at now place i 0 0 same within
+    | inr n ↦ get_or-set_other now place i 0 0 n ∙ h.below i (omega (arith, l, n))
+  ];
+  above = λ i l. get_or-set_other now place i 0 0 (λ e. omega (arith, l, e))
+      ∙ h.above i (omega (arith, l));
+}
+
+pub all_cleared : (first last place : ℕ) (old now : List ℕ) → AreWithin first last old
+    → last ≤ place → AreClearedBelow old now place → now ≡ replicate (length old) 0
+all_cleared first last place old now h end c = ext_get_or 0 now (replicate (length old) 0)
+    (c.long ∙ sym (length-replicate {A = ℕ} (length old) 0)) (λ i l.
+    zero i ∙ sym (zero_in_zeros (length old) i))
+  where
+    zero : (i : ℕ) → get_or now i 0 ≡ 0
+    zero i = elim (cases_lt i place) [
+      | inl b ↦ c.below i b
+      | inr b ↦ c.above i b ∙ h.behind i (omega (arith, b, end))
+    ]
 
 -- ---- members in common
 

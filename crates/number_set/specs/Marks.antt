@@ -1,5 +1,5 @@
 -- Sets of numbers below a size, as rows of marks, and how words of 64 marks hold them.
-use Rattle.std.specs.Prelude.{◌≡◌, ℕ, ◌+◌, ◌*◌, ◌/◌, ◌%◌, ◌<◌, ◌≤◌, ◌==◌, ◌&&◌, ◌||◌, ◌^◌, Bool, false, cond, List, Option, Some, None, length, take, drop, map, slice_index, IsTrue}
+use Rattle.std.specs.Prelude.{◌≡◌, ℕ, ◌+◌, ◌*◌, ◌/◌, ◌%◌, ◌<◌, ◌≤◌, ◌==◌, ◌&&◌, ◌||◌, ◌^◌, Bool, false, cond, List, Option, Some, None, length, take, drop, map, slice_index, slice_index_or, ◌⊎◌, IsTrue}
 use Rattle.std.specs.List.{range_with_len}
 use Rattle.std.specs.Int.{bit_at}
 use Rattle.std.specs.Simd.Lanes.{mask_l}
@@ -28,6 +28,25 @@ word_at marks i = mask_l (take 64 (drop (64 * i) marks))
 unfoldable pub packed : List Bool → List ℕ
 packed marks = map (λ i. word_at marks i) (range_with_len 0 ((length marks + 63) / 64))
 
+-- the words before a place, and those from another place on, are 0
+pub record AreWithin (first last : ℕ) (words : List ℕ) : Type 0 where
+  pub order : first ≤ last
+  pub within : last ≤ length words
+  pub before : (i : ℕ) → i < first → slice_index_or words i 0 ≡ 0
+  pub behind : (i : ℕ) → last ≤ i → slice_index_or words i 0 ≡ 0
+
+-- the words of a row of marks: no bit beyond the marks is set, and none outside a window of places
+pub record AreWords (size first last : ℕ) (words : List ℕ) : Type 0 where
+  pub same : words ≡ packed (marks_in size words)
+  pub within : AreWithin first last words
+
+-- a window, as a first place and the place behind its last, that has what two windows have
+pub record IsWindowOf (first last other_first other_last : ℕ) (window : ℕ × ℕ) : Type 0 where
+  pub order : window.0 ≤ window.1
+  pub one : first < last → (window.0 ≤ first) × (last ≤ window.1)
+  pub other : other_first < other_last → (window.0 ≤ other_first) × (other_last ≤ window.1)
+  pub within : (window.1 ≤ last) ⊎ (window.1 ≤ other_last)
+
 -- none from a place on is marked, before another place
 abbrev pub IsBare : List Bool → ℕ → ℕ → Type 0
 IsBare marks from to = (q : ℕ) → from ≤ q → q < to → is_marked marks q ≡ false
@@ -49,10 +68,10 @@ abbrev pub IsWord : List Bool → ℕ → Option ℕ → Type 0
 IsWord marks place (Some w) = (64 * place < length marks) × (w ≡ word_at marks place)
 IsWord marks place None = length marks ≤ 64 * place
 
--- the members of the third set are those of the first and those of the second
-pub record IsUnion (old other new : List Bool) : Type 0 where
-  pub long : length new ≡ length old
-  pub each : (p : ℕ) → is_marked new p ≡ (is_marked old p || is_marked other p)
+-- a row of marks of a size has the members of another row, and the numbers for which f holds
+pub record HasGained (old new : List Bool) (size : ℕ) (f : ℕ → Bool) : Type 0 where
+  pub long : length new ≡ size
+  pub each : (p : ℕ) → is_marked new p ≡ (is_marked old p || f p)
 
 -- the members of the third set are those that the first and the second have in common
 pub record IsIntersection (old other new : List Bool) : Type 0 where

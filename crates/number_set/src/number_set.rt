@@ -4,7 +4,7 @@ ghost use Rattle.std.specs.Bool.{beq};
 ghost use Rattle.std.specs.Cmp.Lexicographic.{pointwise, lists_per, lists_equiv};
 ghost use Rattle.std.proofs.Common.{rules};
 ghost use Rattle.language_theory.specs.Automaton.{is_marked};
-ghost use Rattle.number_set.specs.Marks.{IsWord, IsUnion, IsIntersection, Meet, fed_words, same_fed};
+ghost use Rattle.number_set.specs.Marks.{IsWord, IsWindowOf, HasGained, IsIntersection, Meet, fed_words, same_fed};
 
 use crate::members::Members;
 use std::alloc::Global;
@@ -16,18 +16,23 @@ use syn_words::Memory;
 #[derive(Drop)]
 pub struct NumberSet {
     size: u32,
+    /// All words before this place are 0.
+    first: u32,
+    /// All words from this place on are 0. So the union with a set of few members that stand near to each other costs
+    /// few words.
+    last: u32,
     words: Vec<u64>,
 }
 
 impl Model for NumberSet {
     ghost use Rattle.std.specs.Prelude.{◌≡◌, List, Bool};
-    ghost use Rattle.number_set.specs.Marks.{packed, marks_in};
+    ghost use Rattle.number_set.specs.Marks.{marks_in, AreWords};
 
     ghost Value = { List Bool };
 
     ghost view = { λ s. marks_in s.size s.words.items };
 
-    ghost invariant = { λ s. s.words.items ≡ packed (marks_in s.size s.words.items) };
+    ghost invariant = { λ s. AreWords s.size s.first s.last s.words.items };
 }
 
 impl NumberSet {
@@ -36,7 +41,12 @@ impl NumberSet {
         ensures { IfOk result (λ s. s ≡ replicate size false) }
     {
         let words = vec![in alloc; 0u64; size.div_ceil(64) as usize]?;
-        Ok(NumberSet { size, words })
+        Ok(NumberSet {
+            size,
+            first: 0,
+            last: 0,
+            words,
+        })
     }
 
     /// The set with a row of marks. Condition: fewer than 2^32 marks.
@@ -92,18 +102,36 @@ impl NumberSet {
         requires { number < length self.old }
         ensures { self.new ≡ slice_set self.old number true }
     {
-        let place = (number / 64) as usize;
-        self.words[place] = self.words[place] | (1 << (number % 64));
+        let place = number / 64;
+        let word = self.words[place as usize] | (1 << (number % 64));
+        self.words[place as usize] = word;
+        let (first, last) = window_of(self.first, self.last, place, place + 1);
+        self.first = first;
+        self.last = last;
     }
 
     /// Puts the members of another set into this one too. Condition: its size is no more than this one's.
     pub fn union_with(&mut self, other: &NumberSet)
         requires { length other.now ≤ length self.old }
-        ensures { IsUnion self.old other.now self.new }
+        ensures { HasGained self.old self.new (length self.old) (is_marked other.now) }
     {
-        for place in 0..other.words.len() {
+        for place in other.first as usize..other.last as usize {
             self.words[place] = self.words[place] | other.words[place];
         }
+        let (first, last) = window_of(self.first, self.last, other.first, other.last);
+        self.first = first;
+        self.last = last;
+    }
+
+    /// Takes all members out.
+    pub fn clear(&mut self)
+        ensures { self.new ≡ replicate (length self.old) false }
+    {
+        for place in self.first as usize..self.last as usize {
+            self.words[place] = 0;
+        }
+        self.first = 0;
+        self.last = 0;
     }
 
     /// Takes out the members that another set doesn't have. Condition: both have one size.
@@ -144,9 +172,27 @@ impl NumberSet {
         let words = Vec::from_slice(*self.words.allocator(), self.words.as_slice())?;
         Ok(NumberSet {
             size: self.size,
+            first: self.first,
+            last: self.last,
             words,
         })
     }
+}
+
+/// The least window with what two windows have. A window is its first place and the place behind its last. Condition:
+/// neither ends before it begins.
+fn window_of(first: u32, last: u32, other_first: u32, other_last: u32) -> (u32, u32)
+    requires one { first ≤ last }
+    requires other { other_first ≤ other_last }
+    ensures { IsWindowOf first last other_first other_last result }
+{
+    if first == last {
+        return (other_first, other_last);
+    }
+    if other_first == other_last {
+        return (first, last);
+    }
+    (first.min(other_first), last.max(other_last))
 }
 
 impl PartialEq for NumberSet {

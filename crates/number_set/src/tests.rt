@@ -64,35 +64,62 @@ fn having(alloc: Global, size: u32, numbers: &[u32]) -> Result<NumberSet, Memory
     Ok(set)
 }
 
+/// The members of a set of 130 numbers, with those of a set of another size put into it.
+fn union_of(alloc: Global, numbers: &[u32], size: u32, more: &[u32]) -> Result<Vec<u32>, Memory> {
+    let mut set = having(alloc, 130, numbers)?;
+    let other = having(alloc, size, more)?;
+    if other.size() <= set.size() {
+        set.union_with(&other);
+    }
+    listed(alloc, &set)
+}
+
 #[test]
-fn combines_sets(rt: HostRuntime) -> Result<(), Fail> {
+fn unites_sets(rt: HostRuntime) -> Result<(), Fail> {
+    let rows: [(&[u32], u32, &[u32], &[u32]); 6] = [
+        (
+            &[0, 63, 128],
+            130,
+            &[63, 64, 127, 129],
+            &[0, 63, 64, 127, 128, 129],
+        ),
+        (&[64], 130, &[0, 129], &[0, 64, 129]),
+        (&[0, 129], 130, &[64], &[0, 64, 129]),
+        (&[], 70, &[1, 64, 69], &[1, 64, 69]),
+        (&[5], 130, &[], &[5]),
+        (&[5, 128], 0, &[], &[5, 128]),
+    ];
+    for (numbers, size, more, all) in rows {
+        assert_eq!(rt; union_of(rt.alloc(), numbers, size, more)?.as_slice(), all);
+    }
+    Ok(())
+}
+
+#[test]
+fn intersects_sets(rt: HostRuntime) -> Result<(), Fail> {
     let first = having(rt.alloc(), 130, &[0, 63, 128])?;
-    let second = having(rt.alloc(), 130, &[63, 64, 127, 129])?;
-    let mut set = first.copy()?;
-    set.union_with(&second);
-    assert_eq!(rt;
-        listed(rt.alloc(), &set)?.as_slice(),
-        [0, 63, 64, 127, 128, 129].as_slice()
-    );
-    let mut set = first.copy()?;
-    set.union_with(&having(rt.alloc(), 70, &[1, 64, 69])?);
-    assert_eq!(rt;
-        listed(rt.alloc(), &set)?.as_slice(),
-        [0, 1, 63, 64, 69, 128].as_slice()
-    );
-    set.union_with(&NumberSet::empty(rt.alloc(), 0)?);
-    assert_eq!(rt;
-        listed(rt.alloc(), &set)?.as_slice(),
-        [0, 1, 63, 64, 69, 128].as_slice()
-    );
-    let mut set = first.copy()?;
-    set.intersect_with(&second);
-    assert_eq!(rt; listed(rt.alloc(), &set)?.as_slice(), [63].as_slice());
-    assert_eq!(rt; first.meets(&second), true);
-    assert_eq!(rt;
-        second.meets(&having(rt.alloc(), 130, &[0, 62, 128])?),
-        false
-    );
-    assert_eq!(rt; second.meets(&having(rt.alloc(), 130, &[0, 129])?), true);
+    let rows: [(&[u32], &[u32]); 4] = [
+        (&[63, 64, 127, 129], &[63]),
+        (&[0, 63, 128], &[0, 63, 128]),
+        (&[1, 62, 64, 129], &[]),
+        (&[], &[]),
+    ];
+    for (numbers, common) in rows {
+        let other = having(rt.alloc(), 130, numbers)?;
+        let mut set = first.copy()?;
+        set.intersect_with(&other);
+        assert_eq!(rt; listed(rt.alloc(), &set)?.as_slice(), common);
+        assert_eq!(rt; first.meets(&other), !common.is_empty());
+    }
+    Ok(())
+}
+
+#[test]
+fn clears_sets(rt: HostRuntime) -> Result<(), Fail> {
+    let mut set = having(rt.alloc(), 130, &[0, 63, 128])?;
+    set.clear();
+    assert_eq!(rt; set == NumberSet::empty(rt.alloc(), 130)?, true);
+    set.insert(70);
+    assert_eq!(rt; listed(rt.alloc(), &set)?.as_slice(), [70].as_slice());
     Ok(())
 }

@@ -7,7 +7,7 @@ pub index-requires : goal.index-requires
 index-requires c =
     let s = c.self.inside in
     let h : Holds s.size s.words.items c.args.self.now =
-    holds s.size s.words.items c.args.self.now c.self.invariant c.self.view_is in
+    holds s.size s.words.items c.args.self.now c.self.invariant.same c.self.view_is in
     let within = held_within s.size s.words.items c.args.self.now c.args.number h c.requires in
     search rules
 
@@ -15,7 +15,7 @@ pub returns : goal.returns
 returns c =
     let s = c.self.inside in
     let h : Holds s.size s.words.items c.args.self.now =
-    holds s.size s.words.items c.args.self.now c.self.invariant c.self.view_is in
+    holds s.size s.words.items c.args.self.now c.self.invariant.same c.self.view_is in
     let within = held_within s.size s.words.items c.args.self.now c.args.number h c.requires in
     held_mark s.size s.words.items c.args.self.now c.args.number c.index.result.now h c.requires
     (get_or_read s.words.items _ _ within c.index.ensures 0)

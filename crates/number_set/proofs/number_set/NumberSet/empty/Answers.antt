@@ -1,5 +1,7 @@
 use Rattle.std.proofs.Common.{◌≡◌, ◌+◌, ◌/◌, arith, rules, false, replicate}
 use Rattle.number_set.proofs.Packing.{Holds, empty_holds, held_words, held_marks}
+use Rattle.number_set.specs.Marks.{AreWithin}
+use Rattle.number_set.proofs.Combining.{none_within}
 use Rattle.number_set.proofs.number_set.NumberSet.empty.Goals as goal
 
 made : (c : goal.In_ok-words)
@@ -9,8 +11,13 @@ made c =
     let zeros : c.in_ok-words.words.items ≡ replicate c.div_ceil.result 0 = search rules in
     rw (zeros, many) (empty_holds c.args.size)
 
+zeros_within : (c : goal.In_ok-words) → AreWithin 0 0 c.in_ok-words.words.items
+zeros_within c =
+    let zeros : c.in_ok-words.words.items ≡ replicate c.div_ceil.result 0 = search rules in
+    rw zeros (none_within c.div_ceil.result)
+
 pub invariant_of-result : goal.invariant_of-result
-invariant_of-result c = held_words _ _ _ (made c)
+invariant_of-result c = record { same = held_words _ _ _ (made c); within = zeros_within c }
 
 pub returns : goal.returns
 returns c = held_marks _ _ _ (made c)

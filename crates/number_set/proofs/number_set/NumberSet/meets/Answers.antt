@@ -13,9 +13,9 @@ index-requires-in-loop-place c =
     let s = c.self.inside in
     let t = c.other.inside in
     let h : Holds s.size s.words.items c.args.self.now =
-    holds s.size s.words.items c.args.self.now c.self.invariant c.self.view_is in
+    holds s.size s.words.items c.args.self.now c.self.invariant.same c.self.view_is in
     let k : Holds t.size t.words.items c.args.other.now =
-    holds t.size t.words.items c.args.other.now c.other.invariant c.other.view_is in
+    holds t.size t.words.items c.args.other.now c.other.invariant.same c.other.view_is in
     let many = as_many_words s.size t.size s.words.items t.words.items c.args.self.now c.args.other.now h k c.requires in
     omega (arith, many, c.loop-place-test.true, c.len-place-end.ensures, s.words.ok.0, t.words.ok.0)
 
@@ -24,9 +24,9 @@ returns-then-index-ne0 c =
     let s = c.self.inside in
     let t = c.other.inside in
     let h : Holds s.size s.words.items c.args.self.now =
-    holds s.size s.words.items c.args.self.now c.self.invariant c.self.view_is in
+    holds s.size s.words.items c.args.self.now c.self.invariant.same c.self.view_is in
     let k : Holds t.size t.words.items c.args.other.now =
-    holds t.size t.words.items c.args.other.now c.other.invariant c.other.view_is in
+    holds t.size t.words.items c.args.other.now c.other.invariant.same c.other.view_is in
     let many = as_many_words s.size t.size s.words.items t.words.items c.args.self.now c.args.other.now h k c.requires in
     let first : c.loop-place.place < length s.words.items = omega (arith, c.loop-place-test.true, c.len-place-end.ensures, s.words.ok.0, t.words.ok.0) in
     let second : c.loop-place.place < length t.words.items = omega (arith, many, first) in
@@ -43,9 +43,9 @@ loop-place-preserved c =
     let s = c.self.inside in
     let t = c.other.inside in
     let h : Holds s.size s.words.items c.args.self.now =
-    holds s.size s.words.items c.args.self.now c.self.invariant c.self.view_is in
+    holds s.size s.words.items c.args.self.now c.self.invariant.same c.self.view_is in
     let k : Holds t.size t.words.items c.args.other.now =
-    holds t.size t.words.items c.args.other.now c.other.invariant c.other.view_is in
+    holds t.size t.words.items c.args.other.now c.other.invariant.same c.other.view_is in
     let many = as_many_words s.size t.size s.words.items t.words.items c.args.self.now c.args.other.now h k c.requires in
     let first : c.loop-place.place < length s.words.items = omega (arith, c.loop-place-test.true, c.len-place-end.ensures, s.words.ok.0, t.words.ok.0) in
     let second : c.loop-place.place < length t.words.items = omega (arith, many, first) in
@@ -59,9 +59,9 @@ returns c =
     let s = c.self.inside in
     let t = c.other.inside in
     let h : Holds s.size s.words.items c.args.self.now =
-    holds s.size s.words.items c.args.self.now c.self.invariant c.self.view_is in
+    holds s.size s.words.items c.args.self.now c.self.invariant.same c.self.view_is in
     let k : Holds t.size t.words.items c.args.other.now =
-    holds t.size t.words.items c.args.other.now c.other.invariant c.other.view_is in (
+    holds t.size t.words.items c.args.other.now c.other.invariant.same c.other.view_is in (
       λ e. absurd (both_ways false refl e),
       λ m. absurd (meet_nowhere s.size t.size s.words.items t.words.items c.args.self.now
           c.args.other.now h k c.requires c.loop-place.place

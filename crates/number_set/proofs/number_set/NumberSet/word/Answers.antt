@@ -7,7 +7,7 @@ pub returns-then-place-len : goal.returns-then-place-len
 returns-then-place-len c =
     let s = c.self.inside in
     let h : Holds s.size s.words.items c.args.self.now =
-    holds s.size s.words.items c.args.self.now c.self.invariant c.self.view_is in
+    holds s.size s.words.items c.args.self.now c.self.invariant.same c.self.view_is in
     let long = held_long s.size s.words.items c.args.self.now h in
     omega (arith, long, h.long, c.len.ensures, s.words.ok.0, c.if-place-len.true)
 
@@ -15,7 +15,7 @@ pub returns : goal.returns
 returns c =
     let s = c.self.inside in
     let h : Holds s.size s.words.items c.args.self.now =
-    holds s.size s.words.items c.args.self.now c.self.invariant c.self.view_is in
+    holds s.size s.words.items c.args.self.now c.self.invariant.same c.self.view_is in
     let within : c.args.place < length s.words.items =
     omega (arith, c.len.ensures, s.words.ok.0, c.if-place-len.false) in
     let read = get_or_read s.words.items _ _ within c.index.ensures 0 in (

@@ -11,15 +11,15 @@ returns-then-self-other c =
     rw (sym c.as_slice.ensures.value, sym c.as_slice-then-self-other.ensures.value) c.eq.ensures
     in
     words ∙ equal_held s.size t.size s.words.items t.words.items c.args.self.now c.args.other.now
-    c.if-self-other.true (holds s.size s.words.items c.args.self.now c.self.invariant
+    c.if-self-other.true (holds s.size s.words.items c.args.self.now c.self.invariant.same
     c.self.view_is)
-    (holds t.size t.words.items c.args.other.now c.other.invariant c.other.view_is)
+    (holds t.size t.words.items c.args.other.now c.other.invariant.same c.other.view_is)
 
 pub returns-else-self-other : goal.returns-else-self-other
 returns-else-self-other c =
     let s = c.self.inside in
     let t = c.other.inside in
     unequal_held s.size t.size s.words.items t.words.items c.args.self.now c.args.other.now
-    c.if-self-other.false (holds s.size s.words.items c.args.self.now c.self.invariant
+    c.if-self-other.false (holds s.size s.words.items c.args.self.now c.self.invariant.same
     c.self.view_is)
-    (holds t.size t.words.items c.args.other.now c.other.invariant c.other.view_is)
+    (holds t.size t.words.items c.args.other.now c.other.invariant.same c.other.view_is)
