@@ -2,6 +2,7 @@
 use Rattle.std.proofs.Common.{◌≡◌, ℕ, ◌+◌, ◌*◌, ◌/◌, ◌%◌, ◌^◌, ◌<◌, ◌≤◌, ◌&&◌, ◌||◌, ◌⊎◌, ◌≢◌, inl, inr, Bool, true, false, IsTrue, List, replicate, cond, length, get_or, set, map, bit_or, bit_and, max, min, w64, refl, ap, sym, subst, ◌∙◌, arith}
 use Rattle.std.specs.List.{range_with_len}
 use Rattle.std.specs.Int.{bit_at, trailing_zeros}
+use Rattle.std.specs.Int.Bits.{and_zero_r}
 use Rattle.std.proofs.lemmas.Nat.{or_lt, and_le_l}
 use Rattle.std.proofs.lemmas.Nat.Bits.{same_from_bits_below, bit_at_or, bit_at_and, bit_at-zero, bit_at-trailing_zeros}
 use Rattle.std.proofs.lemmas.List.{ext_get_or, get_or-set_other, get_or_past, length-set, get_or-replicate, length-replicate}
@@ -361,6 +362,21 @@ all_cleared first last place old now h end c = ext_get_or 0 now (replicate (leng
 abbrev pub AreApartBelow : List ℕ → List ℕ → ℕ → Type 0
 AreApartBelow v w place = (i : ℕ) → i < place → bit_and (get_or v i 0) (get_or w i 0) ≡ 0
 
+apart_from_zero : (v w : List ℕ) (i : ℕ) → get_or w i 0 ≡ 0
+    → bit_and (get_or v i 0) (get_or w i 0) ≡ 0
+apart_from_zero v w i e = rw e (and_zero_r (get_or v i 0))
+
+pub none_apart_before : (v w : List ℕ) (first last : ℕ) → AreWithin first last w
+    → AreApartBelow v w first
+none_apart_before v w first last h i l = apart_from_zero v w i (h.before i l)
+
+pub none_apart_behind : (v w : List ℕ) (first last place : ℕ) → AreWithin first last w
+    → last ≤ place → AreApartBelow v w place → AreApartBelow v w (length w)
+none_apart_behind v w first last place h end apart i l = elim (cases_lt i place) [
+  | inl b ↦ apart i b
+  | inr b ↦ apart_from_zero v w i (h.behind i (omega (arith, b, end)))
+]
+
 pub one_apart : (v w : List ℕ) (place x y : ℕ) → x ≡ get_or v place 0 → y ≡ get_or w place 0
     → bit_and x y ≡ 0 → AreApartBelow v w place → AreApartBelow v w (place + 1)
 one_apart v w place x y e f none h i l = elim (equal_or_not i place) [
@@ -391,20 +407,20 @@ common_bit marks other i k l = and_alike.each (is_marked marks (64 * i + k))
     (word_bit other i k l)
 
 module _ (s t : ℕ) (v w : List ℕ) (marks other : List Bool) (first : Holds s v marks)
-    (second : Holds t w other) (same : length other ≡ length marks) where
-  long_alike : length w ≡ length v
-  long_alike = as_many_words s t v w marks other first second same
+    (second : Holds t w other) (short : length other ≤ length marks) where
+  fewer : length w ≤ length v
+  fewer = fewer_words s t v w marks other first second short
 
   -- words with a bit in common have a member in common
-  pub meet_here : (place x y : ℕ) → place < length v → x ≡ get_or v place 0
+  pub meet_here : (place x y : ℕ) → place < length w → x ≡ get_or v place 0
       → y ≡ get_or w place 0 → 0 < bit_and x y → Meet marks other
   meet_here place x y l e f some =
       let common : bit_and x y ≡ bit_and (word_at marks place) (word_at other place) =
       rw (
         e,
         f,
-        held_word s v marks place first l,
-        held_word t w other place second (omega (arith, long_alike)),
+        held_word s v marks place first (omega (arith, l, fewer)),
+        held_word t w other place second l,
       ) refl in
       let less = and_le_l (word_at marks place) (word_at other place) in
       let small = word_small marks place in
@@ -416,17 +432,16 @@ module _ (s t : ℕ) (v w : List ℕ) (marks other : List Bool) (first : Holds s
       ∙ ap (λ (n : ℕ). bit_at n k) (sym common) ∙ lowest.1) in
       (64 * place + k, found.0, found.1)
 
-  pub meet_nowhere : (place : ℕ) → length v ≤ place → AreApartBelow v w place
-      → Meet marks other → ⊥
-  meet_nowhere place end h (p, a, b) = elim (cases_lt p (length marks)) [
+  pub meet_nowhere : AreApartBelow v w (length w) → Meet marks other → ⊥
+  meet_nowhere h (p, a, b) = elim (cases_lt p (length other)) [
     | inl l ↦
-        let within : p / 64 < length v = omega (arith, held_long s v marks first, first.long) in
+        let within : p / 64 < length w = omega (arith, l, held_long t w other second, second.long) in
         let none : bit_and (word_at marks (p / 64)) (word_at other (p / 64)) ≡ 0 =
         rw (
-          sym (held_word s v marks (p / 64) first within),
-          sym (held_word t w other (p / 64) second (omega (arith, long_alike))),
+          sym (held_word s v marks (p / 64) first (omega (arith, within, fewer))),
+          sym (held_word t w other (p / 64) second within),
         )
-        (h (p / 64) (omega arith)) in
+        (h (p / 64) within) in
         let cut : 64 * (p / 64) + p % 64 ≡ p = place_cut p in
         let one : bit_of_both (is_marked marks (64 * (p / 64) + p % 64))
         (is_marked other (64 * (p / 64) + p % 64)) ≡ 1 =
@@ -436,5 +451,5 @@ module _ (s t : ℕ) (v w : List ℕ) (marks other : List Bool) (first : Holds s
         ≡ 0 = ap (λ (n : ℕ). bit_at n (p % 64)) none ∙ bit_at-zero (p % 64) in
         omega (arith, one, bit, zero)
     | inr g ↦
-        both_ways (is_marked marks p) (get_or_past marks p false g) a
+        both_ways (is_marked other p) (get_or_past other p false g) b
   ]

@@ -144,12 +144,12 @@ impl NumberSet {
         }
     }
 
-    /// Whether two sets have a member in common. Condition: both have one size.
+    /// Whether two sets have a member in common. Condition: the size of the other is no more than this one's.
     pub fn meets(&self, other: &NumberSet) -> bool
-        requires { length other.now ≡ length self.now }
+        requires { length other.now ≤ length self.now }
         ensures { IsTrue result ↔ Meet self.now other.now }
     {
-        for place in 0..self.words.len() {
+        for place in other.first as usize..other.last as usize {
             if self.words[place] & other.words[place] != 0 {
                 return true;
             }
