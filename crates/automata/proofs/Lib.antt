@@ -1,2 +1,3 @@
+pub mod StepsBack
 pub mod Steps
 pub mod Rows

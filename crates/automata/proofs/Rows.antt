@@ -12,7 +12,8 @@ use Rattle.language_theory.proofs.Graphs.{row_place}
 use Rattle.language_theory.proofs.Numbers.{equal_or_not, true_or_not}
 use Rattle.language_theory.specs.Automaton.{Automaton, IsAutomaton, is_marked, has_step, steps_where}
 use Rattle.language_theory.proofs.StepLists.{listed_where, has_where, same_where, all_where}
-use Rattle.automata.specs.Nfa.{most_states, IsSized, IsRow, AreRows, HasGained, in_rows, of_rows, bare}
+use Rattle.number_set.specs.Marks.{HasGained}
+use Rattle.automata.specs.Nfa.{most_states, IsSized, IsRow, AreRows, in_rows, of_rows, bare}
 use Rattle.automata.proofs.Steps.{step_within, leads, with_steps, none_where}
 
 pub unmarked_past : (marks : List Bool) (q : ℕ) → length marks ≤ q → is_marked marks q ≡ false

@@ -1,1 +1,2 @@
+pub mod StepsBack
 pub mod Nfa

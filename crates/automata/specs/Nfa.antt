@@ -73,8 +73,3 @@ of_rows letters initial finals rows = record {
 pub record AreRows (states letters : ℕ) (rows : List (List Bool)) : Type 0 where
   pub long : length rows ≡ states * letters
   pub row : All (λ marks. (length marks ≡ 0) ⊎ (length marks ≡ states)) rows
-
--- the row has a place for each state, and the marks for which g holds too
-pub record HasGained (old new : List Bool) (states : ℕ) (g : ℕ → Bool) : Type 0 where
-  pub long : length new ≡ states
-  pub each : (q : ℕ) → is_marked new q ≡ (is_marked old q || g q)

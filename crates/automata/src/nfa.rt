@@ -1,7 +1,8 @@
 //! Automata with any number of initial states, and of steps from one state by one letter.
 ghost use Rattle.std.specs.Prelude.{◌≡◌, ◌+◌, ◌*◌, ◌<◌, ◌≤◌, ◌&&◌, ◌||◌, ◌==◌, ◌⊎◌, ℕ, [], length, replicate, IfOk, OnOk, OnErr};
 ghost use Rattle.language_theory.specs.Automaton.{Automaton, IsAutomaton, has_step, is_step, is_initial, is_final, is_marked};
-ghost use Rattle.automata.specs.Nfa.{most_states, IsSized, IsRow, HasGained, bare, with_initial, with_final, with_step, with_row};
+ghost use Rattle.number_set.specs.Marks.{HasGained};
+ghost use Rattle.automata.specs.Nfa.{most_states, IsSized, IsRow, bare, with_initial, with_final, with_step, with_row};
 
 use number_set::NumberSet;
 use std::alloc::Global;
@@ -199,7 +200,7 @@ impl Nfa {
     }
 
     /// The allocator that the automaton keeps.
-    fn allocator(&self) -> Global {
+    pub(crate) fn allocator(&self) -> Global {
         *self.finals.allocator()
     }
 }

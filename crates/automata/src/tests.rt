@@ -6,7 +6,7 @@ use crate::Nfa;
 use number_set::NumberSet;
 use std::alloc::Global;
 use std::test::Fail;
-use syn_words::Memory;
+use syn_words::{Memory, Word};
 
 /// The automaton of `(ab)*` that begins in two states.
 fn two_starts(alloc: Global) -> Result<Nfa, Memory>
@@ -83,5 +83,31 @@ fn adds_rows(rt: HostRuntime) -> Result<(), Fail> {
         assert!(rt; !nfa.has_step(4, 0, to));
     }
     assert_eq!(rt; nfa.row(4, 0).size(), 0);
+    Ok(())
+}
+
+fn word(alloc: Global, letters: &[u8]) -> Result<Word, Memory> {
+    let mut word = Word::new(alloc);
+    for letter in letters {
+        word.push(*letter)?;
+    }
+    Ok(word)
+}
+
+#[test]
+fn accepts_words(rt: HostRuntime) -> Result<(), Fail> {
+    let nfa = two_starts(rt.alloc())?;
+    let rows: [(&[u8], bool); 7] = [
+        (b"", true),
+        (b"\x00", false),
+        (b"\x00\x01", true),
+        (b"\x00\x01\x00\x01", true),
+        (b"\x00\x01\x00", false),
+        (b"\x01", false),
+        (b"\x02", false),
+    ];
+    for (letters, accepted) in rows {
+        assert_eq!(rt; nfa.accepts(&word(rt.alloc(), letters)?)?, accepted);
+    }
     Ok(())
 }

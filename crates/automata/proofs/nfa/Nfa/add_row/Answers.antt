@@ -1,7 +1,7 @@
 use Rattle.std.proofs.Common.{◌<◌, ◌∙◌, [], length, get_or, set, ap, subst, sym, ℕ}
 use Rattle.std.proofs.lemmas.List.{get_or_read}
 use Rattle.language_theory.specs.Automaton.{Automaton, IsAutomaton, has_step, is_marked}
-use Rattle.automata.specs.Nfa.{HasGained}
+use Rattle.number_set.specs.Marks.{HasGained}
 use Rattle.automata.proofs.Steps.{adding_steps}
 use Rattle.automata.proofs.Rows.{HasSteps, row_changed, row_within, changed_sized, marked_within}
 use Rattle.automata.proofs.nfa.Nfa.add_row.Goals as goal

@@ -1,7 +1,7 @@
 -- the marked states accept the rest of the word
 use Rattle.std.proofs.Common.{drop}
-use Rattle.acceptance.specs.Marks.{AreAccepting}
-use Rattle.acceptance.proofs.accepting.accepting.Given as goal
+use Rattle.automata.specs.StepsBack.{AreAccepting}
+use Rattle.automata.proofs.accepting.accepting.Given as goal
 
 abbrev pub invariant-loop-place : goal.invariant-loop-place
 invariant-loop-place l = AreAccepting l.nfa (drop l.place l.word) l.marks

@@ -1,19 +1,21 @@
 //! The states from which an automaton accepts a word, from the word's last letter to its first.
 ghost use Rattle.std.specs.Prelude.{◌≡◌, ◌<◌, ◌↔◌, ℕ, length, IsTrue, IfOk};
 ghost use Rattle.language_theory.specs.Automaton.{Accepts, IsInitial, IsTarget, is_marked};
-ghost use Rattle.acceptance.specs.Marks.{AreAccepting, AreBefore};
+ghost use Rattle.automata.specs.StepsBack.{AreAccepting, AreBefore};
 
-use automata::Nfa;
+use crate::nfa::Nfa;
 use number_set::NumberSet;
-use std::alloc::Global;
 use syn_words::{Memory, Word};
 
-/// Whether the automaton accepts a word: a path from an initial to a final state has the letters of the word.
-pub fn accepts(alloc: Global, nfa: &Nfa, word: &Word) -> Result<bool, Memory>
-    ensures { IfOk result (λ b. IsTrue b ↔ Accepts nfa.now word.now) }
-{
-    let marks = accepting(alloc, nfa, word.letters())?;
-    Ok(has_initial(nfa, &marks))
+impl Nfa {
+    /// Whether the automaton accepts a word: a path from an initial to a final state has the letters of the word. It
+    /// takes time linear in the states and the rows of marks of each letter of the word.
+    pub fn accepts(&self, word: &Word) -> Result<bool, Memory>
+        ensures { IfOk result (λ b. IsTrue b ↔ Accepts self.now word.now) }
+    {
+        let marks = accepting(self, word.letters())?;
+        Ok(has_initial(self, &marks))
+    }
 }
 
 /// Whether an initial state is marked.
@@ -30,12 +32,12 @@ fn has_initial(nfa: &Nfa, marks: &NumberSet) -> bool
 }
 
 /// The states from which a path with the letters of the word ends in a final state.
-fn accepting(alloc: Global, nfa: &Nfa, word: &[u8]) -> Result<NumberSet, Memory>
+fn accepting(nfa: &Nfa, word: &[u8]) -> Result<NumberSet, Memory>
     ensures { IfOk result (λ marks. AreAccepting nfa.now word.now marks) }
 {
     // Its contract tells that the automaton is within the limits.
     let _states = nfa.states();
-    let mut marks = NumberSet::from_marks(alloc, nfa.finals())?;
+    let mut marks = NumberSet::from_marks(nfa.allocator(), nfa.finals())?;
     for place in (0..word.len()).rev() {
         marks = step_back(nfa, word[place], &marks)?;
     }
@@ -52,7 +54,7 @@ fn step_back(nfa: &Nfa, letter: u8, marks: &NumberSet) -> Result<NumberSet, Memo
         return Ok(before);
     }
     for state in 0..nfa.states() {
-        if leads_to(nfa, state, letter, marks)? {
+        if leads_to(nfa, state, letter, marks) {
             before.insert(state);
         }
     }
@@ -60,16 +62,12 @@ fn step_back(nfa: &Nfa, letter: u8, marks: &NumberSet) -> Result<NumberSet, Memo
 }
 
 /// Whether a step by a letter leads from a state to a marked state.
-fn leads_to(nfa: &Nfa, state: u32, letter: u8, marks: &NumberSet) -> Result<bool, Memory>
+fn leads_to(nfa: &Nfa, state: u32, letter: u8, marks: &NumberSet) -> bool
     requires state { state < nfa.now.states }
     requires letter { letter < nfa.now.letters }
     requires long { length marks.now ≡ nfa.now.states }
-    ensures { IfOk result (λ b. IsTrue b
-        ↔ ((q : ℕ) × IsTarget nfa.now state letter q × IsTrue (is_marked marks.now q))) }
+    ensures { IsTrue result
+        ↔ ((q : ℕ) × IsTarget nfa.now state letter q × IsTrue (is_marked marks.now q)) }
 {
-    // Its contract tells that the automaton is within the limits.
-    let _states = nfa.states();
-    let mut targets = marks.bare()?;
-    targets.union_with(nfa.row(state, letter));
-    Ok(targets.meets(marks))
+    marks.meets(nfa.row(state, letter))
 }

@@ -5,8 +5,10 @@ use Rattle.std.proofs.lemmas.List.{length-replicate, get_or-replicate, length-se
 use Rattle.std.proofs.lemmas.Grind.{common_steps, get_or-set_at}
 use Rattle.language_theory.proofs.Numbers.{equal_or_not}
 use Rattle.language_theory.specs.Automaton.{Automaton, IsAutomaton, IsTarget, is_marked, has_step}
-use Rattle.automata.proofs.Rows.{no_step}
-use Rattle.acceptance.specs.Marks.{AreAccepting, AreBefore}
+use Rattle.number_set.specs.Marks.{Meet}
+use Rattle.automata.specs.Nfa.{IsRow}
+use Rattle.automata.proofs.Rows.{marked_within, no_step}
+use Rattle.automata.specs.StepsBack.{AreAccepting, AreBefore}
 
 -- a letter is put before a word
 pub accepting_before : (m : Automaton) (w : List ℕ) (a : ℕ) (marks before : List Bool)
@@ -45,6 +47,17 @@ nothing_before m a marks good h = record {
         absurd (both_ways (has_step m p a q) (no_step m p a q good (inr (inl h))) target.1),
   );
 }
+
+-- a row of targets has a state in common with the marked ones
+pub meets_targets : (m : Automaton) (p a : ℕ) (marks row : List Bool) (b : Bool)
+    → length marks ≡ m.states → IsRow m p a row → (IsTrue b ↔ Meet marks row)
+    → IsTrue b ↔ ((q : ℕ) × IsTarget m p a q × IsTrue (is_marked marks q))
+meets_targets m p a marks row b long targets meet = (
+  λ t. let (q, marked, there) = meet.0 t in
+      (q, (omega (arith, long, marked_within marks q marked), subst (λ (x : Bool). IsTrue x) (targets.each q) there), marked),
+  λ x. let (q, target, marked) = x in
+      meet.1 (q, marked, subst (λ (x : Bool). IsTrue x) (sym (targets.each q)) target.1),
+)
 
 -- the states below n are done, and the others are not marked
 pub record AreBeforeBelow (m : Automaton) (a : ℕ) (marks : List Bool) (n : ℕ)

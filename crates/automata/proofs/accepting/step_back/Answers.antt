@@ -1,7 +1,7 @@
 use Rattle.std.proofs.Common.{ℕ, false, replicate, ap, ◌∙◌, sym, subst, arith}
-use Rattle.acceptance.specs.Marks.{AreBefore}
-use Rattle.acceptance.proofs.Marks.{nothing_before}
-use Rattle.acceptance.proofs.accepting.step_back.Goals as goal
+use Rattle.automata.specs.StepsBack.{AreBefore}
+use Rattle.automata.proofs.StepsBack.{nothing_before}
+use Rattle.automata.proofs.accepting.step_back.Goals as goal
 
 pub returns-then-letter-letters : goal.returns-then-letter-letters
 returns-then-letter-letters c =
