@@ -26,11 +26,6 @@ row_of m p = slice_index_or m.rows p []
 abbrev pub is_marked : Table → ℕ → ℕ → Bool
 is_marked m p q = automaton.is_marked (row_of m p) q
 
--- the numbers of f are added to a set, and nothing else changes
-pub record IsGained (old new : List Bool) (f : ℕ → Bool) : Type 0 where
-  pub long : length new ≡ length old
-  pub each : (q : ℕ) → automaton.is_marked new q ≡ (automaton.is_marked old q || f q)
-
 -- the pairs of f are added, and nothing else changes
 pub record IsAdded (old new : Table) (f : ℕ → ℕ → Bool) : Type 0 where
   pub width : new.width ≡ old.width

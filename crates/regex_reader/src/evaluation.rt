@@ -77,7 +77,7 @@ fn join(
 {
     if !have_words(&left, &right) {
         let positions = left.positions() + right.positions();
-        marks.clear_rows(position, position + positions)?;
+        marks.clear_rows(position, position + positions);
         return Ok(Part::bare(alloc, false, positions));
     }
     marks.add_pairs(left.last(), right.first())?;

@@ -1,9 +1,10 @@
 //! A relation of numbers below a width.
-ghost use Rattle.std.specs.Prelude.{◌≡◌, ◌≢◌, ℕ, ◌+◌, ◌<◌, ◌≤◌, Bool, false, ◌&&◌, ◌==◌, List, length, replicate, IfOk, OnOk};
+ghost use Rattle.std.specs.Prelude.{◌≡◌, ◌≢◌, ℕ, ◌+◌, ◌<◌, ◌≤◌, Bool, false, ◌&&◌, ◌==◌, List, length, replicate, IfOk, OnOk, OnErr};
 ghost use Rattle.std.specs.List.{All};
 ghost use Rattle.expression_theory.specs.FirstLast.{has};
 ghost use Rattle.language_theory.specs.Automaton as automaton;
-ghost use Rattle.regex_reader.specs.Marks.{widest, Table, row_of, is_marked, IsGained, IsAdded, IsCleared};
+ghost use Rattle.number_set.specs.Marks.{HasGained};
+ghost use Rattle.regex_reader.specs.Marks.{widest, Table, row_of, is_marked, IsAdded, IsCleared};
 
 use number_set::NumberSet;
 use std::alloc::Global;
@@ -13,7 +14,7 @@ use syn_words::Memory;
 /// Puts each number of a list into a set.
 fn insert_all(set: &mut NumberSet, numbers: &[u32])
     requires { All (λ q. q < length set.old) numbers.now }
-    ensures { IsGained set.old set.new (has numbers.now) }
+    ensures { HasGained set.old set.new (length set.old) (has numbers.now) }
 {
     for number in numbers {
         set.insert(*number);
@@ -86,30 +87,25 @@ impl Marks {
         Ok(set)
     }
 
-    /// Takes out each pair of a number with one that is not in the set.
-    fn keep_in_row(&mut self, p: u32, set: &NumberSet)
-        requires p { p < self.old.width }
-        requires long { length set.now ≡ self.old.width }
+    /// Takes out each pair of a number.
+    fn clear_row(&mut self, p: u32)
+        requires { p < self.old.width }
         ensures width { self.new.width ≡ self.old.width }
-        ensures here { (q : ℕ) → is_marked self.new p q
-            ≡ (is_marked self.old p q && automaton.is_marked set.now q) }
+        ensures here { (q : ℕ) → is_marked self.new p q ≡ false }
         ensures rest { (i q : ℕ) → i ≢ p → is_marked self.new i q ≡ is_marked self.old i q }
     {
-        self.rows[p as usize].intersect_with(set);
+        self.rows[p as usize].clear();
     }
 
-    /// Takes out each pair whose first number is from `from` on and below `to`. After `Memory` nothing has changed.
-    pub fn clear_rows(&mut self, from: u32, to: u32) -> Result<(), Memory>
+    /// Takes out each pair whose first number is from `from` on and below `to`.
+    pub fn clear_rows(&mut self, from: u32, to: u32)
         requires from { from ≤ to }
         requires to { to ≤ self.old.width }
-        ensures cleared { OnOk result (IsCleared self.old self.new from to) }
-        ensures width { self.new.width ≡ self.old.width }
+        ensures { IsCleared self.old self.new from to }
     {
-        let none = self.no_numbers()?;
         for p in from..to {
-            self.keep_in_row(p, &none);
+            self.clear_row(p);
         }
-        Ok(())
     }
 
     /// Adds the pairs of p with each of the list.
@@ -136,6 +132,7 @@ impl Marks {
         requires to { All (λ q. q < self.old.width) to.now }
         ensures added { OnOk result
             (IsAdded self.old self.new (λ i j. has from.now i && has to.now j)) }
+        ensures err { OnErr result (self.new ≡ self.old) }
         ensures width { self.new.width ≡ self.old.width }
     {
         let mut set = self.no_numbers()?;

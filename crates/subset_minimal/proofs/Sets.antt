@@ -14,7 +14,7 @@ use Rattle.language_theory.proofs.Congruences.{moved_append}
 use Rattle.language_theory.proofs.Automata.{accepts_reached, reached_within}
 use Rattle.subset_minimal.specs.Subsets.{comes_from, successor, set_of, HasFinal}
 use Rattle.automata.specs.Nfa.{IsRow}
-use Rattle.number_set.specs.Marks.{IsUnion}
+use Rattle.number_set.specs.Marks.{HasGained}
 
 -- ---- one letter
 
@@ -170,10 +170,10 @@ none_below m members a n e = record {
 
 -- a member adds the states to which its steps lead
 pub more_below : (m : Automaton) (members : List Bool) (a n : ℕ) (old row new : List Bool)
-    → IsTrue (is_marked members n) → IsRow m n a row → IsUnion old row new
+    → IsTrue (is_marked members n) → IsRow m n a row → HasGained old new m.states (λ q. is_marked row q)
     → AreTargetsBelow m members a n old → AreTargetsBelow m members a (n + 1) new
 more_below m members a n old row new marked here added h =
-    record { long = added.long ∙ h.long; each = λ q l. (to q l, from q l) }
+    record { long = added.long; each = λ q l. (to q l, from q l) }
   where
     mark : (q : ℕ) → is_marked new q ≡ (is_marked old q || has_step m n a q)
     mark q = added.each q ∙ ap (λ (b : Bool). is_marked old q || b) (here.each q)

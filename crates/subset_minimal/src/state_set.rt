@@ -17,20 +17,21 @@ pub(crate) fn initial_set(alloc: Global, nfa: &Nfa) -> Result<NumberSet, Memory>
     NumberSet::from_marks(alloc, nfa.initials())
 }
 
-/// The set of the states to which the steps with a letter lead from the states of a set. Condition: a place for each
-/// state, and a letter in range. For each member it takes time linear in a 64th of the states.
-pub(crate) fn next_set(set: &NumberSet, nfa: &Nfa, letter: u8) -> Result<NumberSet, Memory>
+/// Makes a set that of the states to which the steps with a letter lead from the states of another set. Conditions: both
+/// have a place for each state, and the letter is in range. For each member it takes time linear in a 64th of the states
+/// from the first to the last to which steps lead.
+pub(crate) fn set_next(next: &mut NumberSet, set: &NumberSet, nfa: &Nfa, letter: u8)
     requires sized { IsSized nfa.now }
     requires long { length set.now ≡ nfa.now.states }
+    requires next { length next.old ≡ nfa.now.states }
     requires letter { letter < nfa.now.letters }
-    ensures { IfOk result (λ next. next ≡ successor nfa.now set.now letter) }
+    ensures { next.new ≡ successor nfa.now set.now letter }
 {
-    let mut next = set.bare()?;
+    next.clear();
     let mut members = set.members();
     while let Some(state) = members.next() {
         next.union_with(nfa.row(state, letter));
     }
-    Ok(next)
 }
 
 /// Whether one of the states of a set is final. Condition: a place for each state of the automaton.

@@ -13,7 +13,7 @@ returns-then-not-have_words-clause-joined c = λ s t ts hl hr f.
     c.clear_rows.new.self hl hr f
     (sym c.have_words.ensures ∙ c.if-not-have_words.true)
     (subst (λ n. IsCleared c.args.marks.now c.clear_rows.new.self c.args.position
-    (c.args.position + n)) count c.in_ok-clear_rows.ensures.cleared)
+    (c.args.position + n)) count c.clear_rows.ensures)
     k.word k.empty (k.positions ∙ count) k.first k.last
 
 pub returns-clause-joined : goal.returns-clause-joined

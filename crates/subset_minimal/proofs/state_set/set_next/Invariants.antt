@@ -1,7 +1,7 @@
 -- the next set has the states to which steps lead from the members so far
 use Rattle.std.proofs.Common.{◌≡◌, ◌≤◌, ◌-◌}
 use Rattle.subset_minimal.proofs.Sets.{AreTargetsBelow}
-use Rattle.subset_minimal.proofs.state_set.next_set.Given as goal
+use Rattle.subset_minimal.proofs.state_set.set_next.Given as goal
 
 abbrev pub invariant-loop-next : goal.invariant-loop-next
 invariant-loop-next l = record {

@@ -1,7 +1,7 @@
 use Rattle.std.proofs.Common.{◌≡◌, ◌≤◌, ℕ, false, rules, subst, List, Bool}
 use Rattle.language_theory.specs.Automaton.{is_marked}
 use Rattle.subset_minimal.proofs.Sets.{all_walked}
-use Rattle.subset_minimal.proofs.state_set.next_set.Goals as goal
+use Rattle.subset_minimal.proofs.state_set.set_next.Goals as goal
 
 pub returns : goal.returns
 returns c =
