@@ -1,17 +1,17 @@
 -- No two nodes of the construction's list are equal.
-use Rattle.std.proofs.Common.{◌≡◌, ◌≢◌, ℕ, zero, suc, ◌<◌, ◌≤◌, ◌-◌, ◌++◌, true, false, eqb, List, [], ◌∷◌, length, length-append, Option, Some, None, inl, inr, refl, sym, ap, ◌∙◌, subst, arith}
-use Rattle.std.specs.Prelude.{not, nat_lt}
+use Rattle.std.proofs.Common.{◌≡◌, ◌≢◌, ℕ, zero, suc, ◌<◌, ◌≤◌, ◌-◌, ◌++◌, true, List, [], ◌∷◌, length, length-append, Some, None, inl, inr, refl, sym, ap, ◌∙◌, arith}
+use Rattle.std.specs.Prelude.{not}
 use Rattle.std.specs.List.{position_or_len}
 use Rattle.std.proofs.lemmas.Bool.{cases_lt, lt-ltb, eq-eqb}
-use Rattle.std.proofs.lemmas.List.{get_or_append_left, get_or_default}
+use Rattle.std.proofs.lemmas.List.{get_or_append_left}
 use Rattle.std.proofs.lemmas.List.Sums.{prefix_len_passes}
 use Rattle.std.proofs.Math.Seq.{get_or-append_right}
 use Rattle.star_free_theory.specs.declared.nodes.SfNode.{SfNode}
 use Rattle.star_free_theory.specs.declared.nodes.SfNode.TheVariants as node
-use Rattle.star_free_theory.specs.Construction.{Algebra, construction, done, has_room, opening, place, same_node}
+use Rattle.star_free_theory.specs.Construction.{Algebra, construction, done, opening, place, same_node}
 use Rattle.star_free_theory.specs.Pruning.{node_at}
 use Rattle.star_free_lists.specs.Pruning.{AreDistinct}
-use Rattle.star_free_lists.proofs.Keeping.{IsLetterBelow, kept_construction}
+use Rattle.star_free_lists.proofs.Keeping.{kept_construction}
 
 same_self : (x : SfNode) → same_node x x ≡ true
 same_self node.Empty = refl

@@ -5,7 +5,7 @@ use Rattle.std.proofs.lemmas.Bool.{cases_Bool}
 use Rattle.star_free_theory.specs.declared.nodes.SfNode.{SfNode}
 use Rattle.star_free_theory.specs.declared.nodes.SfNode.TheVariants as node
 use Rattle.star_free_theory.specs.Instance.{Among}
-use Rattle.star_free_theory.specs.Construction.{done, depth, nodes, Algebra, Outcome, Task, Treating, bind, chosen, construction, count_from, divisor, each, ends, first_task, free, has, has_room, is_none_left, join, join_all, join_finals, join_pairs, opened, opened_list, opening, or_empty, pairs, place, put, second_task, submonoid, take as taking, treat, treat_ends, treat_first, treat_second, treat_whole, treat_within, when, whole_task, with, without}
+use Rattle.star_free_theory.specs.Construction.{done, Algebra, Outcome, Task, Treating, bind, chosen, construction, count_from, divisor, each, ends, first_task, free, has, has_room, is_none_left, join, join_all, join_finals, join_pairs, opened, opened_list, opening, or_empty, pairs, place, put, second_task, submonoid, take as taking, treat, treat_ends, treat_first, treat_second, treat_whole, treat_within, when, whole_task, with, without}
 use Rattle.star_free_theory.proofs.Gives.{Gives, gives_bind, gives_done}
 use Rattle.star_free_theory.proofs.Whole.{among_count}
 

@@ -1,11 +1,11 @@
 -- The letters of the construction's list, and of its pruning, are those of the monoid.
-use Rattle.std.proofs.Common.{◌≡◌, ℕ, zero, suc, ◌+◌, ◌<◌, ◌++◌, ◌≤◌, true, List, [], ◌∷◌, length, slice_index, ◌-◌, Option, Some, inl, inr, sym, ap, ◌∙◌, arith, subst}
+use Rattle.std.proofs.Common.{◌≡◌, ℕ, zero, suc, ◌<◌, ◌++◌, List, [], ◌∷◌, length, slice_index, ◌-◌, Some, inl, inr, sym, ap, ◌∙◌, arith, subst}
 use Rattle.std.proofs.lemmas.Bool.{cases_lt}
 use Rattle.std.proofs.lemmas.List.{get_or_append_left, get_or_past}
 use Rattle.std.proofs.Math.Seq.{get_or-append_right}
 use Rattle.star_free_theory.specs.declared.nodes.SfNode.{SfNode}
 use Rattle.star_free_theory.specs.declared.nodes.SfNode.TheVariants as node
-use Rattle.star_free_theory.specs.Construction.{Algebra, construction, done, has_room, opening}
+use Rattle.star_free_theory.specs.Construction.{Algebra, construction, done, opening}
 use Rattle.star_free_theory.specs.Pruning.{IsPruning, IsRenumbered, node_at}
 use Rattle.star_free_lists.specs.SfList.{AreLettersBelow}
 use Rattle.star_free_lists.proofs.Keeping.{IsLetterBelow, kept_construction}

@@ -1,6 +1,7 @@
 pub mod Interning
 pub mod Steps
 pub mod Tables
+pub mod Linking
 pub mod Alike
 pub mod Choosing
 pub mod Making

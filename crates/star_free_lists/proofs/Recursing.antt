@@ -1,5 +1,5 @@
 -- What treating an instance comes to after each of its steps, in flat tables.
-use Rattle.std.proofs.Common.{Result, Ok, Err, ◌≡◌, ◌∙◌, ◌<◌, ℕ, suc, true, false, eqb}
+use Rattle.std.proofs.Common.{Result, ◌≡◌, ◌∙◌, ◌<◌, ℕ, suc, true, false, eqb}
 use Rattle.std.proofs.Common.{List, length, slice_index, All, sym, ap, subst, refl, inl, inr, arith}
 use Rattle.std.proofs.Common.{Option}
 use Rattle.std.specs.Result.{IsErrAnd}

@@ -10,7 +10,7 @@ use Rattle.std.specs.Result.{IsErrAnd}
 use Rattle.star_free_theory.specs.declared.nodes.SfNode.{SfNode}
 use Rattle.star_free_theory.specs.declared.nodes.SfNode.TheVariants as node
 use Rattle.star_free_theory.specs.Construction.{Outcome, done, bind, take, put, place, join}
-use Rattle.star_free_theory.specs.Construction.{join_pairs, join_finals, each, with}
+use Rattle.star_free_theory.specs.Construction.{join_finals, each, with}
 use Rattle.star_free_lists.specs.declared.faults.SfFault.{SfFault}
 use Rattle.star_free_lists.specs.declared.faults.SfFault.TheVariants as fault
 use Rattle.star_free_lists.specs.Building.{Answers, AnswersTable, IsSoFar, Stops, neutral}
@@ -88,16 +88,7 @@ pub taken_as : (most : Option ℕ) (xs : List SfNode) (x : SfNode) (s : Option �
     → Taken most xs x s
 taken_as most xs x s e = subst (Taken most xs x) e (taken most xs x)
 
--- joining the pairs from the i-th on: the i-th, and then those behind it
-pub pairs_at : (m : Option ℕ) (f g : ℕ → ℕ) (s : Option ℕ) (ps : List (ℕ × ℕ)) (i : ℕ)
-    (xs : List SfNode) → i < length ps
-    → join_pairs m f g s (drop i ps) xs
-    ≡ bind (take m xs (node.Cat (f (get_or ps i (0, 0)).0) (g (get_or ps i (0, 0)).1)))
-    (λ r. bind (join m s r.0 r.1) (λ o. join_pairs m f g (Some o.1) (drop (i + 1) ps) o.0))
-pairs_at m f g s ps i xs l = ap (λ (qs : List (ℕ × ℕ)). join_pairs m f g s qs xs)
-    (drop_more ps i (0, 0) l)
-
--- the same of elements, joined from the i-th on
+-- joining elements from the i-th on: the i-th, and then those behind it
 pub finals_at : (m : Option ℕ) (f : ℕ → ℕ) (s : Option ℕ) (ps : List ℕ) (i : ℕ) (xs : List SfNode)
     → i < length ps
     → join_finals m f (drop i ps) s xs ≡ bind (join m s xs (f (get_or ps i 0)))

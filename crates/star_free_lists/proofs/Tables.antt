@@ -1,6 +1,6 @@
 -- What flat tables hold after one more entry.
 use Rattle.std.proofs.Common.{◌≡◌, ◌∙◌, ◌<◌, ◌≤◌, ◌+◌, ℕ, zero, suc, Bool, true, false, cond, eqb}
-use Rattle.std.proofs.Common.{List, [], ◌∷◌, ◌++◌, length, slice_index, slice_index_or, set}
+use Rattle.std.proofs.Common.{List, [], ◌∷◌, ◌++◌, length, slice_index, set}
 use Rattle.std.proofs.Common.{replicate, refl, sym, ap, subst, append_assoc, ◌⊎◌, inl, inr, arith}
 use Rattle.std.proofs.lemmas.Bool.{cases_Bool, cases_lt}
 use Rattle.std.proofs.lemmas.Bool.Decides.{eqb_tells}
@@ -8,11 +8,11 @@ use Rattle.std.proofs.lemmas.List.{length-set, get_or-set_same, get_or-set_other
 use Rattle.std.proofs.lemmas.List.{get_or-replicate, length-replicate, get_or_append_left}
 use Rattle.language_theory.specs.Automaton.{is_marked}
 use Rattle.star_free_theory.specs.Instance.{Among, Distinct, AllAmong, value}
-use Rattle.star_free_theory.specs.Construction.{has, keep, pairs, row, count_from}
+use Rattle.star_free_theory.specs.Construction.{has, keep, count_from}
 use Rattle.star_free_theory.proofs.FiniteLists.{no_more}
 use Rattle.star_free_theory.proofs.Whole.{count_among, count_distinct, length-count}
-use Rattle.star_free_lists.specs.Instances.{Multiplication, times, AreLocalFactors, AreGroups}
-use Rattle.star_free_lists.specs.Instances.{AreRowAdded, IsSearch, GoesOn, IsNoted, AreSpanMarks}
+use Rattle.star_free_lists.specs.Instances.{Multiplication, times, AreLocalFactors}
+use Rattle.star_free_lists.specs.Instances.{IsSearch, GoesOn, IsNoted, AreSpanMarks}
 
 pub among_push : (xs : List ℕ) (y x : ℕ) → Among (xs ++ y ∷ []) x → Among xs x ⊎ (x ≡ y)
 among_push [] y x (inl e) = inr e
@@ -81,65 +81,6 @@ local_more p m els list z iz im iw h = record {
       | inr f ↦ absurd (e.1 (ap (times p m) f))
     ]
   ];
-}
-
-row-push : (mul : ℕ → ℕ → ℕ) (r : ℕ) (ts : List ℕ) (t u : ℕ) → row mul r (ts ++ t ∷ []) u
-    ≡ row mul r ts u ++ cond (eqb (mul r t) u) ((r, t) ∷ []) []
-row-push mul r [] t u = refl
-row-push mul r (z ∷ ts) t u = elim (cases_Bool (eqb (mul r z) u)) [
-  | inl e ↦ rw e (ap (◌∷◌ (r, z)) (row-push mul r ts t u))
-  | inr e ↦ rw e (row-push mul r ts t u)
-]
-
-pub row_more : (p : Multiplication) (r : ℕ) (ts : List ℕ) (t : ℕ) (old new : List (List (ℕ × ℕ)))
-    → times p r t < length new → AreRowAdded p r ts old new
-    → AreRowAdded p r (ts ++ t ∷ []) old (set new (times p r t) (slice_index_or new (times p r t) []
-    ++ (r, t) ∷ []))
-row_more p r ts t old new l h =
-    let j = times p r t in
-    let v = slice_index_or new j [] ++ (r, t) ∷ [] in
-    record {
-      long = length-set new j v ∙ h.long;
-      each = λ u i. elim (eqb_tells j u) [
-        | inl e ↦
-            ap (λ (z : ℕ). slice_index_or (set new j v) z []) (sym e.1)
-            ∙ get_or-set_same new j v [] l
-            ∙ ap (λ zs. zs ++ (r, t) ∷ []) (ap (λ (z : ℕ). slice_index_or new z []) e.1 ∙ h.each u
-            i)
-            ∙ append_assoc (slice_index_or old u []) (row (times p) r ts u) ((r, t) ∷ [])
-            ∙ sym (ap (λ zs. slice_index_or old u [] ++ zs) (row-push (times p) r ts t u
-            ∙ rw e.0 refl))
-        | inr e ↦
-            get_or-set_other new j u v [] (λ f. e.1 (sym f)) ∙ h.each u i
-            ∙ sym (ap (λ zs. slice_index_or old u [] ++ zs) (row-push (times p) r ts t u
-            ∙ rw e.0 (append-nil (row (times p) r ts u))))
-      ];
-    }
-
-pub row_none : (p : Multiplication) (r : ℕ) (old : List (List (ℕ × ℕ))) → AreRowAdded p r [] old old
-row_none p r old = record { long = refl; each = λ u i. sym (append-nil (slice_index_or old u [])) }
-
-pairs-push : (mul : ℕ → ℕ → ℕ) (rs : List ℕ) (r : ℕ) (ts : List ℕ) (u : ℕ)
-    → pairs mul (rs ++ r ∷ []) ts u ≡ pairs mul rs ts u ++ row mul r ts u
-pairs-push mul [] r ts u = append-nil (row mul r ts u)
-pairs-push mul (z ∷ rs) r ts u = ap (λ zs. row mul z ts u ++ zs) (pairs-push mul rs r ts u)
-    ∙ sym (append_assoc (row mul z ts u) (pairs mul rs ts u) (row mul r ts u))
-
-pub groups_none : (p : Multiplication) (ts : List ℕ) (groups : List (List (ℕ × ℕ)))
-    → groups ≡ replicate p.table.side [] → length groups ≡ p.table.side → AreGroups p [] ts groups
-groups_none p ts groups e l = record {
-  long = l;
-  each = λ u i. ap (λ zs. slice_index_or zs u []) e
-      ∙ get_or-replicate p.table.side u [] [] i;
-}
-
-pub groups_more : (p : Multiplication) (rs : List ℕ) (r : ℕ) (ts : List ℕ)
-    (old new : List (List (ℕ × ℕ))) → AreGroups p rs ts old → AreRowAdded p r ts old new
-    → AreGroups p (rs ++ r ∷ []) ts new
-groups_more p rs r ts old new h a = record {
-  long = a.long ∙ h.long;
-  each = λ u i. a.each u (let f = h.long in omega arith)
-      ∙ ap (λ zs. zs ++ row (times p) r ts u) (h.each u i) ∙ sym (pairs-push (times p) rs r ts u);
 }
 
 distinct_push : (xs : List ℕ) (y : ℕ) → Distinct xs → ¬ (Among xs y) → Distinct (xs ++ y ∷ [])

@@ -1,5 +1,5 @@
 -- The whole monoid of a table as an instance, and what its construction comes to after each step.
-use Rattle.std.proofs.Common.{Result, Ok, Err, ◌≡◌, ◌∙◌, ◌<◌, ◌+◌, ◌++◌, ℕ, zero, suc, List, []}
+use Rattle.std.proofs.Common.{Result, ◌≡◌, ◌∙◌, ◌<◌, ◌+◌, ◌++◌, ℕ, zero, suc, List, []}
 use Rattle.std.proofs.Common.{◌∷◌, length, slice_index, get_or, All, sym, ap, subst, refl, inl, inr}
 use Rattle.std.proofs.Common.{arith, add-zero, Option, Some, None}
 use Rattle.std.specs.Result.{IsErrAnd}

@@ -44,12 +44,12 @@ pub record AreGroups (p : Multiplication) (rs ts : List ℕ) (groups : List (Lis
     pub long : length groups ≡ p.table.side
     pub each : (u : ℕ) → u < p.table.side → slice_index_or groups u [] ≡ pairs (times p) rs ts u
 
--- the pairs of r with each t are put behind those of their products
-pub record AreRowAdded (p : Multiplication) (r : ℕ) (ts : List ℕ) (old new : List (List (ℕ × ℕ))) :
+-- the pairs of r with each t are put before those of their products
+pub record IsRowPut (p : Multiplication) (r : ℕ) (ts : List ℕ) (old new : List (List (ℕ × ℕ))) :
     Type 0 where
   pub long : length new ≡ length old
-  pub each : (u : ℕ) → u < length old → slice_index_or new u [] ≡ slice_index_or old u [] ++ row
-      (times p) r ts u
+  pub each : (u : ℕ) → u < length old → slice_index_or new u [] ≡ row (times p) r ts u
+      ++ slice_index_or old u []
 
 -- what a search for the products of images has found, and its marks
 pub record IsSearch (p : Multiplication) (one : ℕ) (letters images found : List ℕ)

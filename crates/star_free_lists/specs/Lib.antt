@@ -1,6 +1,7 @@
 pub mod SfList
 pub mod Building
 pub mod Instances
+pub mod Grouping
 pub mod Tasks
 pub mod Finishing
 pub mod Recursion

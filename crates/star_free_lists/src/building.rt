@@ -6,6 +6,7 @@ ghost use Rattle.star_free_lists.specs.Building.{Answers, ArePairsWithin, neutra
 ghost use Rattle.star_free_lists.specs.SfList.{IsSfList};
 
 use crate::faults::SfFault;
+use crate::grouping::Pairs;
 use crate::list::SfList;
 use indexmap::IndexSet;
 use star_free_theory::SfNode;
@@ -97,14 +98,15 @@ impl Builder {
         first: &[u32],
         second: &[u32],
         start: Option<u32>,
-        pairs: &[(u32, u32)],
+        pairs: Pairs<'_>,
     ) -> Result<Option<u32>, SfFault>
-        requires { ArePairsWithin (length first.now) (length second.now) pairs.now }
+        requires { ArePairsWithin (length first.now) (length second.now) pairs }
         ensures { Answers (join_pairs (Some most) (slice_index first.now) (slice_index second.now)
-            start pairs.now self.old) self.new result }
+            start pairs.entry self.old) self.new result }
     {
         let mut joined = start;
-        for &(left, right) in pairs {
+        let mut rest = pairs;
+        while let Some((left, right)) = rest.next() {
             let cat = self.take(
                 most,
                 SfNode::Cat(first[left as usize], second[right as usize]),
@@ -122,11 +124,11 @@ impl Builder {
         first: &[u32],
         second: &[u32],
         start: Option<u32>,
-        pairs: &[(u32, u32)],
+        pairs: Pairs<'_>,
     ) -> Result<u32, SfFault>
-        requires { ArePairsWithin (length first.now) (length second.now) pairs.now }
+        requires { ArePairsWithin (length first.now) (length second.now) pairs }
         ensures { Answers (join_all (Some most) (slice_index first.now)
-            (slice_index second.now) start pairs.now self.old) self.new result }
+            (slice_index second.now) start pairs.entry self.old) self.new result }
     {
         let joined = self.join_pairs(most, first, second, start, pairs)?;
         match joined {

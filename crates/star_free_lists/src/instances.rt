@@ -1,14 +1,11 @@
 //! The finite monoids of instances, in flat tables.
-ghost use Rattle.std.specs.Prelude.{◌≡◌, ◌<◌, ◌≤◌, ℕ, [], length, slice_index, slice_index_or};
-ghost use Rattle.std.specs.Prelude.{vec_items, map, replicate, IfOk, OnOk, All};
+ghost use Rattle.std.specs.Prelude.{◌≡◌, ◌<◌, ◌≤◌, ℕ, length, slice_index, IfOk, OnOk, All};
 ghost use Rattle.language_theory.specs.Automaton.{is_marked};
 ghost use Rattle.star_free_theory.specs.Instance.{Among};
 ghost use Rattle.star_free_theory.specs.Construction.{first_other, without, keep, local_elements};
-ghost use Rattle.star_free_theory.specs.Construction.{is_some_pair};
 ghost use Rattle.star_free_lists.specs.Instances.{Multiplication, IsMultiplication, times, middle};
-ghost use Rattle.star_free_lists.specs.Instances.{AreMiddles, AreLocalFactors, AreGroups};
-ghost use Rattle.star_free_lists.specs.Instances.{AreRowAdded, IsSearch, GoesOn, IsNoted};
-ghost use Rattle.star_free_lists.specs.Instances.{AreSpanMarks};
+ghost use Rattle.star_free_lists.specs.Instances.{AreMiddles, AreLocalFactors};
+ghost use Rattle.star_free_lists.specs.Instances.{IsSearch, GoesOn, IsNoted, AreSpanMarks};
 
 use parallel_table::Table;
 use std::alloc::Global;
@@ -110,7 +107,7 @@ pub(crate) fn chosen(letters: &[u32], images: &[u32], identity: u32) -> u32
 pub(crate) fn others(alloc: Global, letters: &[u32], chosen: u32) -> Result<Vec<u32>, Memory>
     ensures { IfOk result (λ v. v.items ≡ without chosen letters.now) }
 {
-    let mut others = Vec::new(alloc);
+    let mut others = Vec::with_capacity(alloc, letters.len())?;
     for &letter in letters {
         if letter != chosen {
             others.push(letter)?;
@@ -124,7 +121,7 @@ pub(crate) fn marked(alloc: Global, elements: &[u32], marks: &[bool]) -> Result<
     requires { All (λ x. x < length marks.now) elements.now }
     ensures { IfOk result (λ v. v.items ≡ keep (is_marked marks.now) elements.now) }
 {
-    let mut marked = Vec::new(alloc);
+    let mut marked = Vec::with_capacity(alloc, elements.len())?;
     for &element in elements {
         if marks[element as usize] {
             marked.push(element)?;
@@ -181,74 +178,6 @@ pub(crate) fn local_factors(
         factors[product.times(m, element) as usize] = product.factor(element);
     }
     Ok(factors)
-}
-
-/// For each number the pairs of an r and a t that have it as their product, in the order of the pairs. The rows are
-/// filled side by side in one pass, so they are vectors of their own.
-pub(crate) fn groups(
-    alloc: Global,
-    product: &Product<'_>,
-    rs: &[u32],
-    ts: &[u32],
-) -> Result<Vec<Vec<(u32, u32)>>, Memory>
-    requires first { All (λ x. x < product.now.table.side) rs.now }
-    requires second { All (λ x. x < product.now.table.side) ts.now }
-    ensures { IfOk result (λ v. AreGroups product.now rs.now ts.now (map vec_items v.items)) }
-{
-    let mut groups = bare_groups(alloc, product.side() as usize)?;
-    for &r in rs {
-        add_row(product, r, ts, &mut groups)?;
-    }
-    Ok(groups)
-}
-
-/// A number of empty groups.
-fn bare_groups(alloc: Global, count: usize) -> Result<Vec<Vec<(u32, u32)>>, Memory>
-    ensures { IfOk result (λ v. map vec_items v.items ≡ replicate count []) }
-{
-    let mut groups = Vec::with_capacity(alloc, count)?;
-    for _ in 0..count {
-        groups.push(Vec::new(alloc))?;
-    }
-    Ok(groups)
-}
-
-/// Puts the pairs of r with each t behind those of their products.
-fn add_row(
-    product: &Product<'_>,
-    r: u32,
-    ts: &[u32],
-    groups: &mut Vec<Vec<(u32, u32)>>,
-) -> Result<(), Memory>
-    requires first { r < product.now.table.side }
-    requires second { All (λ x. x < product.now.table.side) ts.now }
-    requires long { length groups.old.items ≡ product.now.table.side }
-    ensures { OnOk result (AreRowAdded product.now r ts.now (map vec_items groups.old.items)
-        (map vec_items groups.new.items)) }
-{
-    for &t in ts {
-        groups[product.times(r, t) as usize].push((r, t))?;
-    }
-    Ok(())
-}
-
-/// The elements that are the product of some pair. Condition: there is a group for each.
-pub(crate) fn ends(
-    alloc: Global,
-    groups: &[Vec<(u32, u32)>],
-    elements: &[u32],
-) -> Result<Vec<u32>, Memory>
-    requires { All (λ x. x < length groups.now) elements.now }
-    ensures { IfOk result (λ v. v.items
-        ≡ keep (λ u. is_some_pair (slice_index_or (map vec_items groups.now) u [])) elements.now) }
-{
-    let mut ends = Vec::new(alloc);
-    for &element in elements {
-        if !groups[element as usize].is_empty() {
-            ends.push(element)?;
-        }
-    }
-    Ok(ends)
 }
 
 /// Marks of the products of letters' images: the submonoid that these generate.

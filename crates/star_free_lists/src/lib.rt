@@ -9,6 +9,7 @@ mod choice;
 mod construct_tests;
 mod constructing;
 mod faults;
+mod grouping;
 mod instances;
 mod list;
 mod pruning;

@@ -1,6 +1,6 @@
 //! The steps of the construction that give each of some elements a node.
 ghost use Rattle.std.specs.Prelude.{◌≡◌, ◌<◌, ℕ, [], length, slice_index, slice_index_or};
-ghost use Rattle.std.specs.Prelude.{vec_items, map, replicate, Some, None, IfOk, All};
+ghost use Rattle.std.specs.Prelude.{replicate, Some, None, IfOk, All};
 ghost use Rattle.star_free_theory.specs.Construction.{take, each, join_all};
 ghost use Rattle.star_free_theory.specs.declared.nodes.SfNode.TheVariants as node;
 ghost use Rattle.star_free_lists.specs.Building.{AnswersTable, CanJoin};
@@ -9,7 +9,8 @@ ghost use Rattle.star_free_lists.specs.Finishing.{finished, AreStarts, CanFinish
 use crate::building::Builder;
 use crate::choice::Choice;
 use crate::faults::SfFault;
-use crate::instances::{Product, ends, groups};
+use crate::grouping::{Groups, ends, grouped};
+use crate::instances::Product;
 use star_free_theory::SfNode;
 use std::alloc::Global;
 use syn_words::Memory;
@@ -55,21 +56,21 @@ pub(crate) fn join_groups(
     first: &[u32],
     second: &[u32],
     starts: &[Option<u32>],
-    groups: &[Vec<(u32, u32)>],
+    groups: &Groups,
     elements: &[u32],
 ) -> Result<Vec<u32>, SfFault>
     requires { CanJoin (length first.now) (length second.now) (length starts.now)
-        (map vec_items groups.now) elements.now }
+        groups.now elements.now }
     ensures table { AnswersTable (λ v. v.items)
         (each (λ ys u. join_all (Some most) (slice_index first.now) (slice_index second.now)
-        (slice_index_or starts.now u None) (slice_index_or (map vec_items groups.now) u []) ys)
+        (slice_index_or starts.now u None) (slice_index_or groups.now u []) ys)
         elements.now (λ p. 0) list.old) list.new result }
     ensures long { IfOk result (λ v. length v.items ≡ length starts.now) }
 {
     let mut table = vec![in alloc; 0; starts.len()]?;
     for &element in elements {
         let start = starts[element as usize];
-        let pairs = groups[element as usize].as_slice();
+        let pairs = groups.pairs(element);
         let number = list.join_all(most, first, second, start, pairs)?;
         table[element as usize] = number;
     }
@@ -118,8 +119,8 @@ pub(crate) fn finish(
     ensures long { IfOk result (λ v. length v.items ≡ product.now.table.side) }
 {
     let submonoid = choice.submonoid.as_slice();
-    let last = groups(alloc, product, choice.divisor.as_slice(), submonoid)?;
-    let ends = ends(alloc, last.as_slice(), elements)?;
+    let last = grouped(alloc, product, choice.divisor.as_slice(), submonoid)?;
+    let ends = ends(alloc, &last, elements)?;
     let none = no_starts(alloc, product.side() as usize)?;
     let behind = join_groups(
         list,
@@ -128,10 +129,10 @@ pub(crate) fn finish(
         nodes.second,
         nodes.letters,
         none.as_slice(),
-        last.as_slice(),
+        &last,
         ends.as_slice(),
     )?;
-    let whole = groups(alloc, product, submonoid, ends.as_slice())?;
+    let whole = grouped(alloc, product, submonoid, ends.as_slice())?;
     let starts = starts(alloc, submonoid, nodes.first)?;
     let table = join_groups(
         list,
@@ -140,7 +141,7 @@ pub(crate) fn finish(
         nodes.first,
         behind.as_slice(),
         starts.as_slice(),
-        whole.as_slice(),
+        &whole,
         elements,
     )?;
     Ok(table)

@@ -1,4 +1,4 @@
-use Rattle.std.proofs.Common.{Vec, Global, ◌≡◌, ◌∙◌, ◌<◌, ℕ, List, Some, All}
+use Rattle.std.proofs.Common.{◌≡◌, ◌∙◌, ◌<◌, ℕ, List, Some, All}
 use Rattle.std.proofs.Common.{length, slice_index, sym, ap, subst, arith, refl}
 use Rattle.parallel_table.specs.ProductTables.{cell}
 use Rattle.star_free_theory.specs.declared.nodes.SfNode.{SfNode}

@@ -1,4 +1,4 @@
-use Rattle.std.proofs.Common.{Vec, Global, ◌≡◌, ◌∙◌, ◌-◌, ℕ, suc, List, Some, length}
+use Rattle.std.proofs.Common.{◌≡◌, ◌∙◌, ◌-◌, ℕ, suc, List, Some, length}
 use Rattle.std.proofs.Common.{slice_index, replicate, sym, ap, subst, arith, refl}
 use Rattle.std.proofs.lemmas.List.{get_or-replicate, length-replicate}
 use Rattle.star_free_theory.specs.declared.nodes.SfNode.{SfNode}
@@ -6,9 +6,8 @@ use Rattle.star_free_theory.specs.Construction.{Outcome, Task, bind, free, is_no
 use Rattle.star_free_theory.specs.Construction.{treat_within}
 use Rattle.star_free_lists.specs.Instances.{Multiplication, IsMultiplication}
 use Rattle.star_free_lists.specs.Tasks.{Flat, IsReady, AreShown, task_with}
-use Rattle.star_free_lists.specs.declared.recursion.Letters.{Letters}
 use Rattle.star_free_lists.specs.Finishing.{finished}
-use Rattle.star_free_lists.specs.Recursion.{CanDivide, first_flat, second_nodes, AreSecondNodes}
+use Rattle.star_free_lists.specs.Recursion.{CanDivide, second_nodes}
 use Rattle.star_free_lists.proofs.Steps.{stops_table, stops_table_as, bind_done}
 use Rattle.star_free_lists.proofs.Recursing.{at_zero, at_one, not_one, first_ready}
 use Rattle.star_free_lists.proofs.Recursing.{second_ready, second_side, can_finish, first_shown}

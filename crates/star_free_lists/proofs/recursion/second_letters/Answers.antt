@@ -1,4 +1,4 @@
-use Rattle.std.proofs.Common.{Vec, Global, ◌≡◌, ◌∙◌, ℕ, List, Some, slice_index}
+use Rattle.std.proofs.Common.{◌≡◌, ◌∙◌, ℕ, List, Some, slice_index}
 use Rattle.std.proofs.Common.{refl, ap}
 use Rattle.star_free_theory.specs.declared.nodes.SfNode.{SfNode}
 use Rattle.star_free_theory.specs.declared.nodes.SfNode.TheVariants as node

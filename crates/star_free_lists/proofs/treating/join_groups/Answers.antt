@@ -1,5 +1,5 @@
 use Rattle.std.proofs.Common.{Err, ◌≡◌, ◌∙◌, ◌<◌, ℕ, List, Some, None, [], length, get_or}
-use Rattle.std.proofs.Common.{slice_index, slice_index_or, map, vec_items, replicate, refl, sym, ap}
+use Rattle.std.proofs.Common.{slice_index, slice_index_or, replicate, refl, sym, ap}
 use Rattle.std.proofs.Common.{subst, arith}
 use Rattle.std.proofs.lemmas.Grind.{common_steps}
 use Rattle.std.proofs.lemmas.List.{length-set, length-replicate}
@@ -16,18 +16,18 @@ loop-element-init c =
       so_far_none
           (λ ys u. join_all (Some c.args.most) (slice_index c.args.first.now)
           (slice_index c.args.second.now) (slice_index_or c.args.starts.now u None)
-          (slice_index_or (map vec_items c.args.groups.now) u []) ys) c.args.elements.now
+          (slice_index_or c.args.groups.now u []) ys) c.args.elements.now
           c.args.list.now c.in_ok-table.table.items (length c.args.starts.now) e,
     )
 
 pub returns-in_err-number-clause-table : goal.returns-in_err-number-clause-table
 returns-in_err-number-clause-table c =
-    let e : c.as_slice-pairs.result.now ≡ slice_index_or (map vec_items c.args.groups.now)
+    let e : c.pairs-pairs.result ≡ slice_index_or c.args.groups.now
     (get_or c.args.elements.now c.loop-element.element-index 0) [] = grind (arith, common_steps)
     in
     so_far_stops (λ ys u. join_all (Some c.args.most) (slice_index c.args.first.now)
     (slice_index c.args.second.now) (slice_index_or c.args.starts.now u None)
-    (slice_index_or (map vec_items c.args.groups.now) u []) ys) c.args.elements.now
+    (slice_index_or c.args.groups.now u []) ys) c.args.elements.now
     c.args.list.now c.loop-element.element-index c.loop-element.list c.loop-element.table.items
     c.loop-element.invariant.1 (λ v. v.items) (get_or c.args.elements.now
     c.loop-element.element-index 0) _ c.in_err-number.field-0.0 _
@@ -40,7 +40,7 @@ returns-in_err-number-clause-table c =
 
 pub loop-element-preserved : goal.loop-element-preserved
 loop-element-preserved c =
-    let e : c.as_slice-pairs.result.now ≡ slice_index_or (map vec_items c.args.groups.now)
+    let e : c.pairs-pairs.result ≡ slice_index_or c.args.groups.now
     (get_or c.args.elements.now c.loop-element.element-index 0) [] = grind (arith, common_steps)
     in
     let t : ℕ = get_or c.args.elements.now c.loop-element.element-index 0 in
@@ -49,7 +49,7 @@ loop-element-preserved c =
       length-set c.loop-element.table.items t n ∙ c.loop-element.invariant.0,
       so_far_more (λ ys u. join_all (Some c.args.most) (slice_index c.args.first.now)
           (slice_index c.args.second.now) (slice_index_or c.args.starts.now u None)
-          (slice_index_or (map vec_items c.args.groups.now) u []) ys) c.args.elements.now
+          (slice_index_or c.args.groups.now u []) ys) c.args.elements.now
           c.args.list.now c.loop-element.element-index c.loop-element.list
           c.loop-element.table.items c.loop-element.invariant.1 t c.join_all.new.self n
           c.loop-element-test.true refl l (subst (λ (qs : List (ℕ × ℕ)). join_all (Some c.args.most)
@@ -62,7 +62,7 @@ pub returns : goal.returns
 returns c = record {
   table = so_far_done (λ ys u. join_all (Some c.args.most) (slice_index c.args.first.now)
       (slice_index c.args.second.now) (slice_index_or c.args.starts.now u None)
-      (slice_index_or (map vec_items c.args.groups.now) u []) ys) c.args.elements.now
+      (slice_index_or c.args.groups.now u []) ys) c.args.elements.now
       c.args.list.now c.loop-element.element-index c.loop-element.list c.loop-element.table.items
       c.loop-element.invariant.1 c.loop-element-test.false;
   long = c.loop-element.invariant.0;
@@ -70,7 +70,7 @@ returns c = record {
 
 pub join_all-requires : goal.join_all-requires
 join_all-requires c =
-    let e : c.as_slice-pairs.result.now ≡ slice_index_or (map vec_items c.args.groups.now)
+    let e : c.pairs-pairs.result ≡ slice_index_or c.args.groups.now
     (get_or c.args.elements.now c.loop-element.element-index 0) [] = grind (arith, common_steps)
     in
     let l : get_or c.args.elements.now c.loop-element.element-index 0 < length c.args.starts.now =
