@@ -1,8 +1,7 @@
 -- The words of a line ask for one request.
-use Rattle.std.proofs.Common.{◌≡◌, ◌∙◌, ◌<◌, ◌≤◌, ◌^◌, ℕ, List, Option, Some, length, get_or, refl, sym, ap, arith, subst}
+use Rattle.std.proofs.Common.{◌≡◌, ◌∙◌, ◌<◌, ◌^◌, ℕ, List, Option, Some, length, get_or, refl, sym, ap, arith, subst}
 use Rattle.std.specs.Prelude.{cond, codes}
 use Rattle.std.specs.Str.{bytes_eq}
-use Rattle.std.specs.Fmt.{decimal}
 use Rattle.std.proofs.lemmas.Fmt.{decimal_injective}
 use Rattle.clap.specs.Words.{Row}
 use Rattle.command_line.specs.declared.commands.Command.{Command}
@@ -12,7 +11,7 @@ use Rattle.command_line.specs.declared.fault.LineFault.TheVariants as fault
 use Rattle.command_line.specs.declared.request.Request.{Request}
 use Rattle.command_line.specs.Tables.{OptionRow, options, option_at, command_word}
 use Rattle.command_line.specs.Parsing.{rows_of_line}
-use Rattle.command_line.specs.Line.{IsTaken, IsLine, IsSize, IsSizeFor, IsNumberIn, AreNumbersIn, IsFaultOf, IsInRange, numbers_of}
+use Rattle.command_line.specs.Line.{IsLine, IsSize, IsSizeFor, IsNumberIn, AreNumbersIn, IsFaultOf, IsInRange, numbers_of}
 
 -- the command with a word
 named : List ℕ → Command

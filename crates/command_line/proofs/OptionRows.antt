@@ -1,5 +1,5 @@
 -- A command that takes one option after the other.
-use Rattle.std.proofs.Common.{◌≡◌, ◌∙◌, ◌<◌, ◌+◌, ℕ, suc, List, length, drop, sym, ap, drop-cons, add-one, get_or}
+use Rattle.std.proofs.Common.{◌≡◌, ◌<◌, ◌+◌, ℕ, suc, List, length, drop, ap, drop-cons, add-one, get_or}
 use Rattle.clap.specs.Words.{App, with_rule}
 use Rattle.command_line.specs.Tables.{OptionRow}
 use Rattle.command_line.specs.Parsing.{with_options, valued}

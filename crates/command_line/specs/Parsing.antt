@@ -1,6 +1,6 @@
 -- The words of a line, as `clap` defines how a simple command reads them.
-use Rattle.std.specs.Prelude.{◌≡◌, ℕ, Bool, true, List, [], ◌∷◌, codes, Option, Some}
-use Rattle.clap.specs.Words.{App, Row, Rule, first_of, new_app, new_rule, with_rule, fault_of, matches_of}
+use Rattle.std.specs.Prelude.{ℕ, true, List, [], ◌∷◌, codes, Some}
+use Rattle.clap.specs.Words.{App, Row, Rule, new_app, new_rule, with_rule, fault_of, matches_of}
 use Rattle.clap.specs.Kinds.{Kinds}
 use Rattle.clap.specs.declared.builder.action.ArgAction.TheVariants.{Set}
 use Rattle.command_line.specs.Tables.{OptionRow, options}

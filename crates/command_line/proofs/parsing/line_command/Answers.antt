@@ -1,4 +1,4 @@
-use Rattle.std.proofs.Common.{◌≡◌, ◌∙◌, ap, arith, [], refl, rules}
+use Rattle.std.proofs.Common.{◌∙◌, ap, []}
 use Rattle.clap.specs.Words.{app_of, with_rule}
 use Rattle.command_line.specs.Tables.{OptionRow, options, row}
 use Rattle.command_line.specs.Parsing.{with_options, line_app, valued}

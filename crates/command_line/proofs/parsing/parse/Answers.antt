@@ -1,4 +1,4 @@
-use Rattle.std.proofs.Common.{◌≡◌, ◌∙◌, [], true, inl, inr, ap, sym, subst, refl, map, Global}
+use Rattle.std.proofs.Common.{◌≡◌, ◌∙◌, true, inl, inr, ap, sym, subst, refl, map, Global}
 use Rattle.std.specs.Prelude.{string_bytes}
 use Rattle.clap.specs.Words.{App, app_of, fault_of, matches_of, is_simple, is_simple_and_free, kind_of, IsAmong}
 use Rattle.clap.proofs.OnLiterals.{clap_on_literals}

@@ -1,10 +1,10 @@
-use Rattle.std.proofs.Common.{◌≡◌, ◌∙◌, ℕ, List, Some, sym, ap, map, Global, refl, subst, get_or}
-use Rattle.std.specs.Prelude.{string_bytes, codes}
+use Rattle.std.proofs.Common.{◌≡◌, ◌∙◌, Some, sym, ap, map, Global, refl, subst, get_or}
+use Rattle.std.specs.Prelude.{string_bytes}
 use Rattle.std.proofs.lemmas.Result.{err_from_is_err_and}
-use Rattle.clap.specs.Words.{Row, first_of, found_of, rows_of}
+use Rattle.clap.specs.Words.{found_of, rows_of}
 use Rattle.command_line.specs.Tables.{command_word}
 use Rattle.command_line.specs.Parsing.{rows_of_line}
-use Rattle.command_line.specs.Line.{IsFaultOf, IsFirstBad, IsBadNumber, IsBadSize, AreNumbersIn}
+use Rattle.command_line.specs.Line.{IsFaultOf, AreNumbersIn}
 use Rattle.command_line.specs.declared.fault.LineFault.{LineFault}
 use Rattle.command_line.proofs.reading.read_line.Goals as goal
 

@@ -1,6 +1,6 @@
-use Rattle.std.proofs.Common.{◌<◌, ◌≢◌, ℕ, length, get_or, arith, refl, subst, ◌∙◌, below_more, length-set, get_or-set_other, get_or-set_same}
+use Rattle.std.proofs.Common.{◌<◌, ◌≢◌, length, get_or, arith, refl, subst, ◌∙◌, below_more, length-set, get_or-set_other, get_or-set_same}
 use Rattle.clap.specs.Words.{found_of, rows_of}
-use Rattle.command_line.specs.Tables.{OptionRow, option_at}
+use Rattle.command_line.specs.Tables.{OptionRow}
 use Rattle.command_line.specs.Line.{IsNumberIn}
 use Rattle.command_line.proofs.reading.read_numbers.Goals as goal
 
