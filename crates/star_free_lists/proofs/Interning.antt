@@ -1,8 +1,9 @@
 -- The test of equal nodes, by which an index set finds one, is that of the definitions.
-use Rattle.std.proofs.Common.{◌≡◌, ◌<◌, ◌≤◌, ◌+◌, ◌∙◌, ℕ, Bool, false, List, [], ◌∷◌, ◌++◌, Option}
+use Rattle.std.proofs.Common.{◌≡◌, ◌<◌, ◌≤◌, ◌+◌, ◌∙◌, ℕ, Bool, true, false, List, [], ◌∷◌, ◌++◌}
+use Rattle.std.proofs.Common.{◌||◌, Option}
 use Rattle.std.proofs.Common.{Some, None, length, refl, sym, ap, inl, inr, arith}
 use Rattle.std.specs.List.{position, position_or_len, list_any}
-use Rattle.std.proofs.lemmas.Bool.{cases_lt, lt-ltb, le-ltb}
+use Rattle.std.proofs.lemmas.Bool.{cases_Bool, lt-ltb, le-ltb}
 use Rattle.std.proofs.lemmas.List.{length-append}
 use Rattle.indexmap.specs.IndexSet.{insert_key}
 use Rattle.star_free_theory.specs.Construction.{put, place, done, nodes}
@@ -81,33 +82,42 @@ pub put_full : (m : ℕ) (x : SfNode) (xs : List SfNode) → position (test x) x
 put_full m x xs e l = ap (λ (s : Option ℕ). put (Some m) s xs x) (none_of x xs e)
     ∙ rw (le-ltb (length xs) m l) refl
 
-pub put_more : (m : ℕ) (x : SfNode) (xs : List SfNode) → position (test x) xs ≡ None → length xs < m
+put_more : (m : ℕ) (x : SfNode) (xs : List SfNode) → position (test x) xs ≡ None → length xs < m
     → put (Some m) (place x xs) xs x ≡ done (xs ++ x ∷ [], length xs)
 put_more m x xs e l = ap (λ (s : Option ℕ). put (Some m) s xs x) (none_of x xs e)
     ∙ rw (lt-ltb (length xs) m l) refl
 
--- where it is not found, it would be put at the end
-pub at_end : (x : SfNode) (xs : List SfNode) → position (test x) xs ≡ None
-    → length xs ≤ position_or_len (test x) xs
-at_end x xs e = elim (cases_lt (position_or_len (test x) xs) (length xs)) [
-  | inr l ↦ l
-  | inl l ↦ absurd (let f : Some (position_or_len (test x) xs) ≡ None =
-      sym (rw (lt-ltb (position_or_len (test x) xs) (length xs) l) refl) ∙ e in cc)
+-- where no node passes, none is found
+none_found : (q : SfNode → Bool) (xs : List SfNode) → list_any q xs ≡ false
+    → length xs ≤ position_or_len q xs
+none_found q [] e = omega arith
+none_found q (x ∷ xs) e = elim (cases_Bool (q x)) [
+  | inl f ↦ absurd (let g : true ≡ false = sym (ap (λ (b : Bool). b || list_any q xs) f) ∙ e in cc)
+  | inr f ↦
+      let g : list_any q xs ≡ false = sym (ap (λ (b : Bool). b || list_any q xs) f) ∙ e in
+      let h = none_found q xs g in
+      rw f (omega (arith, h))
 ]
 
-pub inserted : (x : SfNode) (xs : List SfNode) → list_any (test x) xs ≡ false
-    → insert_key test xs x ≡ xs ++ x ∷ []
-inserted x xs e = rw e refl
-
--- a node that is inserted
-pub put_new : (m : ℕ) (x : SfNode) (xs ys : List SfNode) (i : ℕ) → position (test x) xs ≡ None
-    → list_any (test x) xs ≡ false → length xs < m → ys ≡ insert_key test xs x
-    → i ≡ position_or_len (test x) xs → i < length ys → put (Some m) (place x xs) xs x
-    ≡ done (ys, i)
-put_new m x xs ys i none any l e f w =
-    let g : ys ≡ xs ++ x ∷ [] = e ∙ inserted x xs any in
-    let n = at_end x xs none in
-    let len : length ys ≡ length xs + 1 = ap (λ (zs : List SfNode). length zs) g
-    ∙ length-append xs (x ∷ []) in
-    let h : i ≡ length xs = omega arith in
-    put_more m x xs none l ∙ rw (g, h) refl
+-- a node that is inserted where there is room, if no equal one is there
+pub put_inserted : (m : ℕ) (x : SfNode) (xs ys : List SfNode) (i : ℕ) → length xs < m
+    → ys ≡ insert_key test xs x → i ≡ position_or_len (test x) xs → i < length ys
+    → put (Some m) (place x xs) xs x ≡ done (ys, i)
+put_inserted m x xs ys i l e f w = elim (cases_Bool (list_any (test x) xs)) [
+  | inl any ↦
+      let g : ys ≡ xs = e ∙ rw any refl in
+      let len : length ys ≡ length xs = ap (λ (zs : List SfNode). length zs) g in
+      let h : position_or_len (test x) xs < length xs = omega arith in
+      let s : position (test x) xs ≡ Some (position_or_len (test x) xs) =
+      rw (lt-ltb (position_or_len (test x) xs) (length xs) h) refl in
+      put_found (Some m) x xs (position_or_len (test x) xs) s ∙ rw (f, g) refl
+  | inr any ↦
+      let g : ys ≡ xs ++ x ∷ [] = e ∙ rw any refl in
+      let len : length ys ≡ length xs + 1 = ap (λ (zs : List SfNode). length zs) g
+      ∙ length-append xs (x ∷ []) in
+      let n = none_found (test x) xs any in
+      let s : position (test x) xs ≡ None =
+      rw (le-ltb (position_or_len (test x) xs) (length xs) n) refl in
+      let h : i ≡ length xs = omega arith in
+      put_more m x xs s l ∙ rw (g, h) refl
+]

@@ -56,11 +56,11 @@ impl Builder {
     fn put(&mut self, most: u32, node: SfNode) -> Result<u32, SfFault>
         ensures { Answers (put (Some most) (place node self.old) self.old node) self.new result }
     {
-        if let Some(place) = self.nodes.get_index_of(&node) {
-            return Ok(place as u32);
-        }
         if self.nodes.len() >= most as usize {
-            return Err(SfFault::Nodes);
+            let Some(place) = self.nodes.get_index_of(&node) else {
+                return Err(SfFault::Nodes);
+            };
+            return Ok(place as u32);
         }
         let (place, _) = self.nodes.insert_full(node)?;
         Ok(place as u32)

@@ -1,5 +1,5 @@
-//! Star-free lists as values of the program, and the steps of the local-divisor construction of a list from a finite
-//! aperiodic monoid.
+//! Star-free lists as values of the program: the list of some nodes, whether it denotes a word, its pruning, and the
+//! list of a finite aperiodic monoid with accepted elements, which is constructed by local divisors.
 #![tactic(auto)]
 
 mod accepting;
