@@ -1,11 +1,10 @@
 -- A language has one answer on its powers, and so have languages with the same words.
-use Rattle.std.proofs.Common.{◌≡◌, ◌↔◌, inl, inr, ℕ, ◌+◌, ◌≤◌, Bool, IsTrue, List, ◌++◌, arith, refl, sym, ap, subst, subst₂, ◌∙◌}
+use Rattle.std.proofs.Common.{◌≡◌, ◌↔◌, ℕ, ◌+◌, Bool, List, ◌++◌, arith, refl, sym, ap, subst, subst₂, ◌∙◌}
 use Rattle.std.specs.Cmp.{both_ways}
 use Rattle.language_theory.specs.Words.{Over, power, word_at}
 use Rattle.language_theory.specs.Languages.{HaveSameWords}
 use Rattle.language_theory.specs.Congruence.{Syntactic, Agree}
-use Rattle.language_theory.specs.Representatives.{AreRepresentatives}
-use Rattle.monoid_theory.specs.Powers.{IsIndexAndPeriod, IsAperiodic, IsFirstLoop, NeverSettle}
+use Rattle.monoid_theory.specs.Powers.{IsAperiodic, IsFirstLoop}
 use Rattle.monoid_theory.specs.Separation.{Separates, CanSeparate, IsSeparation}
 use Rattle.language_theory.proofs.Congruences.{syntactic_agrees, syntactic_congruence, agree_turned}
 use Rattle.language_theory.proofs.Representatives.{agreeing_list, one_list}

@@ -1,15 +1,15 @@
 -- The syntactic monoid of an aperiodic language as an algebra of the construction, and what the
 -- construction's list denotes.
-use Rattle.std.proofs.Common.{◌≡◌, ◌↔◌, ℕ, ◌+◌, ◌<◌, ◌≤◌, Bool, IsTrue, true, false, List, [], ◌∷◌, ◌++◌, inl, inr, append-nil, length, map, slice_index, All, Some, refl, sym, ap, subst, ◌∙◌, arith}
+use Rattle.std.proofs.Common.{◌≡◌, ◌↔◌, ℕ, ◌+◌, ◌<◌, ◌≤◌, Bool, true, false, List, [], ◌∷◌, ◌++◌, inl, inr, append-nil, length, map, slice_index, All, Some, refl, sym, ap, subst, ◌∙◌, arith}
 use Rattle.std.proofs.lemmas.Bool.{cases_Bool}
 use Rattle.std.proofs.lemmas.List.{get_or-map, length-map, map-append}
-use Rattle.language_theory.specs.Words.{Over, word_at}
+use Rattle.language_theory.specs.Words.{Over}
 use Rattle.language_theory.specs.Automaton.{is_marked}
 use Rattle.language_theory.specs.Languages.{HaveSameWords}
-use Rattle.language_theory.specs.Congruence.{Syntactic, Agree}
-use Rattle.language_theory.specs.Representatives.{IsPlaceOf, AreRepresentatives}
+use Rattle.language_theory.specs.Congruence.{Syntactic}
+use Rattle.language_theory.specs.Representatives.{IsPlaceOf}
 use Rattle.language_theory.specs.ShortlexGraph.{node, target, SameNode}
-use Rattle.language_theory.proofs.Graphs.{node_within, target_within}
+use Rattle.language_theory.proofs.Graphs.{node_within}
 use Rattle.monoid_theory.specs.Powers.{IsAperiodic}
 use Rattle.monoid_theory.specs.Products.{IsProduct}
 use Rattle.monoid_theory.proofs.Agreeing.{agreeing_aperiodic}

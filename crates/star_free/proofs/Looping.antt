@@ -1,5 +1,5 @@
 -- The powers in a syntactic monoid, by the elements to which they lead.
-use Rattle.std.proofs.Common.{◌≡◌, ◌↔◌, ◌⊎◌, inl, inr, ℕ, ◌+◌, ◌<◌, IsTrue, List, ◌++◌, length, Option, Some, None, rules, refl, sym, ap, subst, ◌∙◌, arith, append_assoc}
+use Rattle.std.proofs.Common.{◌≡◌, ◌↔◌, inl, inr, ℕ, ◌+◌, ◌<◌, IsTrue, List, ◌++◌, length, Option, Some, None, rules, refl, sym, ap, subst, ◌∙◌, arith, append_assoc}
 use Rattle.std.specs.Prelude.{MatchOption}
 use Rattle.std.specs.Option.{IsSome}
 use Rattle.language_theory.specs.Words.{Over, power, word_at}
@@ -20,7 +20,7 @@ use Rattle.cayley_tables.specs.CayleyGraphs.{AreCayleyGraphs}
 use Rattle.cayley_tables.proofs.AgreeingGraphs.{graphs_agree, graphs_are_cayley}
 use Rattle.syntactic_monoid.specs.SyntacticMonoid.{SyntacticMonoid, recognised, IsSyntactic}
 use Rattle.star_free.specs.declared.deciding.Loop.{Loop}
-use Rattle.star_free.specs.Loops.{IsFirstLoopWord, IsLoop}
+use Rattle.star_free.specs.Loops.{IsLoop}
 use Rattle.star_free.proofs.PowerNodes.{product_is_node}
 
 -- the least word of a language is that of each language with the same words

@@ -1,5 +1,5 @@
 -- The elements that the powers of a word lead to.
-use Rattle.std.proofs.Common.{◌≡◌, ℕ, Bool, true, false, cond, nat_eq, Some, slice_get, suc, ◌+◌, ◌-◌, ◌<◌, ◌≤◌, List, [], ◌∷◌, ◌++◌, length, get_or, refl, sym, ap, subst, subst₂, ◌∙◌, arith, length-append, append-nil, inl, inr, ◌⊎◌}
+use Rattle.std.proofs.Common.{◌≡◌, ℕ, Bool, true, false, cond, nat_eq, Some, slice_get, ◌+◌, ◌-◌, ◌<◌, ◌≤◌, List, [], ◌∷◌, ◌++◌, length, get_or, sym, ap, subst₂, ◌∙◌, arith, length-append, append-nil, inl, inr, ◌⊎◌}
 use Rattle.std.proofs.Math.Seq.{get_or-append_seam}
 use Rattle.std.proofs.lemmas.List.{get_or_append_left}
 use Rattle.std.proofs.lemmas.List.Folds.{list_any_at}
@@ -8,7 +8,6 @@ use Rattle.std.proofs.lemmas.Bool.{cases_lt, eq-eqb, eqb-true}
 use Rattle.std.specs.List.{list_any}
 use Rattle.indexmap.specs.IndexSet.{insert_key}
 use Rattle.language_theory.specs.Words.{Over, power, word_at}
-use Rattle.language_theory.specs.Congruence.{IsCongruence, IsRightCongruence}
 use Rattle.language_theory.specs.ShortlexGraph.{node, walk, SameNode}
 use Rattle.language_theory.proofs.Graphs.{walk_append, same_node_right}
 use Rattle.monoid_theory.specs.Powers.{Repeats, IsIndexAndPeriod}

@@ -1,4 +1,4 @@
-use Rattle.std.proofs.Common.{◌≡◌, ◌∙◌, List, ℕ, Some, Err, length, refl, subst}
+use Rattle.std.proofs.Common.{◌≡◌, ◌∙◌, Some, Err, length, refl, subst}
 use Rattle.star_free_theory.specs.Construction.{construction}
 use Rattle.star_free_lists.specs.declared.faults.SfFault.{SfFault}
 use Rattle.star_free_lists.specs.Constructing.{IsAnswer, algebra_of, most_depth}

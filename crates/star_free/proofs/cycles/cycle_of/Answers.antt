@@ -1,7 +1,6 @@
-use Rattle.std.proofs.Common.{rules, ◌≡◌, ◌<◌, ◌≤◌, ◌-◌, ◌+◌, ◌++◌, ◌∷◌, [], ℕ, List, Bool, true, false, nat_eq, length, length-append, get_or, ap, subst, ◌∙◌, arith}
+use Rattle.std.proofs.Common.{rules, ◌≡◌, ◌≤◌, ◌-◌, ◌+◌, ◌++◌, ◌∷◌, [], ℕ, List, true, false, nat_eq, length, length-append, get_or, ap, subst, ◌∙◌, arith}
 use Rattle.std.specs.List.{list_any}
-use Rattle.language_theory.specs.Words.{word_at}
-use Rattle.star_free.proofs.PowerNodes.{few_powers, power_is_back, power_is_new, power_step, inserted_again, inserted_new, none_is, stored_is, AreFirstPowers}
+use Rattle.star_free.proofs.PowerNodes.{few_powers, power_is_back, power_is_new, power_step, inserted_again, inserted_new, none_is, stored_is}
 use Rattle.star_free.proofs.cycles.cycle_of.Goals as goal
 
 pub overflow_cast-result : goal.overflow_cast-result

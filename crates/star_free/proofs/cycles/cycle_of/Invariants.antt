@@ -1,7 +1,6 @@
 use Rattle.std.proofs.Common.{◌≡◌, ◌<◌, ◌-◌, length}
 use Rattle.language_theory.specs.Words.{power, word_at}
 use Rattle.language_theory.specs.ShortlexGraph.{node}
-use Rattle.cayley_tables.specs.CayleyGraphs.{AreCayleyGraphs}
 use Rattle.star_free.proofs.PowerNodes.{AreFirstPowers}
 use Rattle.star_free.proofs.cycles.cycle_of.Given as goal
 

@@ -1,7 +1,5 @@
-use Rattle.std.proofs.Common.{rules, ◌≡◌, ◌+◌, ◌∙◌, refl, ap, subst₂}
-use Rattle.language_theory.specs.Words.{power, word_at}
-use Rattle.language_theory.specs.ShortlexGraph.{node, SameNode}
-use Rattle.monoid_theory.specs.Products.{IsProduct}
+use Rattle.std.proofs.Common.{rules, ◌∙◌, refl, ap, subst₂}
+use Rattle.language_theory.specs.Words.{word_at}
 use Rattle.language_theory.specs.Congruence.{Syntactic}
 use Rattle.monoid_theory.specs.Separation.{IsSeparation}
 use Rattle.cayley_tables.specs.CayleyGraphs.{CayleyGraphs}
