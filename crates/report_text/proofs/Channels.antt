@@ -1,10 +1,9 @@
 -- Texts that are said one after another.
-use Rattle.std.proofs.Common.{◌≡◌, ◌<◌, ◌≤◌, ◌+◌, ◌-◌, ℕ, zero, suc, refl, add-one, List, [], ◌++◌, false, Option, Result, Ok, Err, sym, ap, ◌∙◌, subst, append_assoc, append-nil, arith}
+use Rattle.std.proofs.Common.{◌≡◌, ◌<◌, ◌≤◌, ◌+◌, ◌-◌, ℕ, zero, suc, refl, add-one, List, [], ◌++◌, false, Result, Ok, Err, sym, ap, ◌∙◌, subst, append_assoc, append-nil, arith}
 use Rattle.std.proofs.KnownBytes.{Appends-trans, Appends-nil}
 use Rattle.std.proofs.lemmas.Result.{err_from_is_err_and}
-use Rattle.std.specs.Prelude.{OnOk, OnErr}
-use Rattle.std.specs.Result.{IsErrOf, IsErrAnd}
-use Rattle.syn_outside.specs.Counts.{Rose}
+use Rattle.std.specs.Prelude.{OnOk}
+use Rattle.std.specs.Result.{IsErrAnd}
 use Rattle.report_text.specs.Saying.{Channel, IsSaid, IsBrokenOff, IsSaidUpTo, AreLinesSaid, Says}
 use Rattle.report_text.specs.Texts.{texts_below}
 use Rattle.report_text.specs.declared.buffer.SayFault.{SayFault}

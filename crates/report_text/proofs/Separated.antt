@@ -1,5 +1,5 @@
 -- Texts with a gap between each two.
-use Rattle.std.proofs.Common.{◌≡◌, ◌+◌, ℕ, suc, add-one, List, ◌++◌, ap, ◌∙◌, append_assoc}
+use Rattle.std.proofs.Common.{◌≡◌, ◌+◌, ℕ, add-one, List, ◌++◌, ap, ◌∙◌, append_assoc}
 use Rattle.report_text.specs.Texts.{separated, gap_before}
 
 -- one text more behind those that are there, and before it the gap

@@ -1,4 +1,4 @@
-use Rattle.std.proofs.Common.{◌≡◌, ◌<◌, [], rules}
+use Rattle.std.proofs.Common.{rules}
 use Rattle.report_text.specs.Texts.{texts_below}
 use Rattle.report_text.specs.AutomatonSection.{automaton_head, state_text}
 use Rattle.report_text.proofs.Channels.{says-raised, rendered-alone, lines-said, lines-raised}

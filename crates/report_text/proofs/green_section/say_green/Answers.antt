@@ -1,4 +1,4 @@
-use Rattle.std.proofs.Common.{◌≡◌, ◌∙◌, ℕ, ap, subst, length}
+use Rattle.std.proofs.Common.{◌∙◌, ℕ, ap, subst, length}
 use Rattle.report_text.specs.GreenSection.{idempotents_text, marks_below}
 use Rattle.report_text.specs.Saying.{Says, channel}
 use Rattle.report_text.proofs.Channels.{says-then, says-raised}
