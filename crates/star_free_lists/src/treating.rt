@@ -94,9 +94,7 @@ fn no_starts(alloc: Global, count: usize) -> Result<Vec<Option<u32>>, Memory>
     ensures { IfOk result (λ v. v.items ≡ replicate count None) }
 {
     let mut starts = Vec::with_capacity(alloc, count)?;
-    for _ in 0..count {
-        starts.push(None)?;
-    }
+    starts.resize(count, None)?;
     Ok(starts)
 }
 
