@@ -1,13 +1,3 @@
-pub mod Telling
-pub mod Sources
-pub mod Joining
-pub mod Outcomes
-pub mod Elements
-pub mod StarFreeLists
-pub mod Tables
-pub mod Diagrams
 pub mod Deciding
 pub mod Statuses
 pub mod Truths
-pub mod Recognised
-pub mod Locals

@@ -6,12 +6,13 @@ use Rattle.command_line.specs.declared.commands.Command.TheVariants as command
 use Rattle.command_line.specs.declared.request.Request.{Request}
 use Rattle.command_line.specs.Line.{IsAccepted}
 use Rattle.command_line.proofs.Lines.{one_request}
-use Rattle.synmon_top.specs.Reports.{Verdict}
-use Rattle.synmon_top.specs.Outcome.{IsAboutFile, Outcome, Ends, status_of}
+use Rattle.report_outcome.specs.Reports.{Verdict}
+use Rattle.report_outcome.specs.Outcome.{IsAboutFile, Outcome, Ends, status_of}
 use Rattle.synmon_top.specs.Causes.{AreToldFor, HasVerdict, IsLacking, IsOrNoMemory, IsStatus}
-use Rattle.synmon_top.proofs.Deciding.{ending_of, IsText, due_ends}
-use Rattle.synmon_top.specs.declared.ending.Ending.{Ending}
-use Rattle.synmon_top.specs.declared.ending.Ending.TheVariants as ending
+use Rattle.report_outcome.proofs.Verdicts.{ending_of, IsText}
+use Rattle.synmon_top.proofs.Deciding.{due_ends}
+use Rattle.report_outcome.specs.declared.ending.Ending.{Ending}
+use Rattle.report_outcome.specs.declared.ending.Ending.TheVariants as ending
 
 pub status_of-is : (e : Ending) → IsStatus (status_of e)
 status_of-is ending.Whole = inl refl

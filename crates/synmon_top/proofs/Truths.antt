@@ -18,14 +18,14 @@ use Rattle.automaton_file.proofs.SourceLaws.{one_source, refusal_spells_none}
 use Rattle.command_line.specs.declared.request.Request.{Request}
 use Rattle.command_line.specs.Line.{IsLine}
 use Rattle.command_line.proofs.Lines.{one_request}
-use Rattle.synmon_top.specs.declared.sections.Section.{Section}
-use Rattle.synmon_top.specs.declared.sections.Section.TheVariants as section
-use Rattle.synmon_top.specs.declared.ending.Ending.{Ending}
-use Rattle.synmon_top.specs.declared.ending.Ending.TheVariants as ending
-use Rattle.synmon_top.specs.declared.ending.Stop.{Stop}
-use Rattle.synmon_top.specs.Sections.{Limits, limits_of, Said, joined, sections_of, IsSection, AreSections, AreSaid}
-use Rattle.synmon_top.specs.Reports.{Verdict, said, stopped, refused, IsStop, IsVerdict, task_of}
-use Rattle.synmon_top.specs.Outcome.{AreBytesOf, IsDue, Outcome, Ends, status_of}
+use Rattle.report_sections.specs.declared.sections.Section.{Section}
+use Rattle.report_sections.specs.declared.sections.Section.TheVariants as section
+use Rattle.report_outcome.specs.declared.ending.Ending.{Ending}
+use Rattle.report_outcome.specs.declared.ending.Ending.TheVariants as ending
+use Rattle.report_outcome.specs.declared.ending.Stop.{Stop}
+use Rattle.report_sections.specs.Sections.{Limits, limits_of, Said, joined, sections_of, IsSection, AreSections, AreSaid}
+use Rattle.report_outcome.specs.Reports.{Verdict, said, stopped, refused, IsStop, IsVerdict, task_of}
+use Rattle.report_outcome.specs.Outcome.{AreBytesOf, IsDue, Outcome, Ends, status_of}
 use Rattle.synmon_top.specs.Causes.{AreToldFor}
 use Rattle.synmon_top.specs.Headline.{IsTrueOfPowers, IsTrueOfSubwords, IsTrueOfFactors, TellsTruth, TellTruth, Headline}
 use Rattle.synmon_top.proofs.Deciding.{told_bytes}

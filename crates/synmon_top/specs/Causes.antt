@@ -6,8 +6,8 @@ use Rattle.command_line.specs.declared.commands.Command.{Command}
 use Rattle.command_line.specs.declared.commands.Command.TheVariants as command
 use Rattle.command_line.specs.declared.request.Request.{Request}
 use Rattle.command_line.specs.Line.{IsLine}
-use Rattle.synmon_top.specs.Reports.{Verdict, IsVerdict, task_of}
-use Rattle.synmon_top.specs.Outcome.{IsAboutFile}
+use Rattle.report_outcome.specs.Reports.{Verdict, IsVerdict, task_of}
+use Rattle.report_outcome.specs.Outcome.{IsAboutFile}
 
 -- The bytes that a request is about are told: those of a generated file always are, and those of the
 -- operand's name where the files are told.

@@ -31,12 +31,12 @@ use Rattle.syn_outside.specs.NamedFiles.{NamedFiles}
 use Rattle.automaton_file.specs.FileText.{SourceText, IsSource, language_of}
 use Rattle.command_line.specs.declared.request.Request.{Request}
 use Rattle.command_line.specs.Line.{IsLine}
-use Rattle.synmon_top.specs.Sections.{Limits, limits_of, Said, sections_of, joined}
-use Rattle.synmon_top.specs.Reports.{IsStop, task_of}
+use Rattle.report_sections.specs.Sections.{Limits, limits_of, Said, sections_of, joined}
+use Rattle.report_outcome.specs.Reports.{IsStop, task_of}
 use Rattle.synmon_top.specs.Causes.{AreToldFor}
-use Rattle.synmon_top.specs.declared.ending.Stop.{Stop}
-use Rattle.synmon_top.specs.declared.sections.Section.{Section}
-use Rattle.synmon_top.specs.declared.sections.Section.TheVariants as section
+use Rattle.report_outcome.specs.declared.ending.Stop.{Stop}
+use Rattle.report_sections.specs.declared.sections.Section.{Section}
+use Rattle.report_sections.specs.declared.sections.Section.TheVariants as section
 
 -- Of a language L over the letters with these signs.
 module _ (signs : List ℕ) (L : List ℕ → Type 0) where

@@ -4,8 +4,8 @@ ghost use Rattle.std.specs.Prelude.{◌≡◌, ℕ, List, Option, Some};
 ghost use Rattle.syn_outside.specs.NamedFiles.{NamedFiles};
 ghost use Rattle.command_line.specs.declared.request.Request.{Request};
 ghost use Rattle.command_line.specs.Line.{IsLine};
-ghost use Rattle.synmon_top.specs.Outcome.{Outcome, IsDecided};
-ghost use Rattle.synmon_top.specs.declared.ending.Ending.{Ending};
+ghost use Rattle.report_outcome.specs.Outcome.{Outcome, IsDecided};
+ghost use Rattle.report_outcome.specs.declared.ending.Ending.{Ending};
 
 /// The files and the words decide the outcome: of the endings that no device and no want of memory brings about, only
 /// one can come, with one text.

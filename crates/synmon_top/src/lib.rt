@@ -1,14 +1,8 @@
 //! The whole of the program but its devices: from the words of a command line to the bytes that are written.
 #![tactic(auto)]
 
-mod answers;
-mod ending;
 mod laws;
-mod questions;
-mod reporting;
 mod running;
-mod sections;
-mod summary;
 #[cfg(test)]
 mod tests;
 #[cfg(test)]

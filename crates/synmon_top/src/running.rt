@@ -3,16 +3,15 @@ ghost use Rattle.std.specs.Prelude.{◌≡◌, ◌≢◌, ◌⊎◌, ◌≤◌, 
 ghost use Rattle.syn_outside.specs.Counts.{Rose};
 ghost use Rattle.command_line.specs.Line.{IsAccepted, IsInRange};
 ghost use Rattle.generated_file.specs.Generated.{generated_text};
-ghost use Rattle.synmon_top.specs.Reports.{said, stopped, refused};
+ghost use Rattle.report_outcome.specs.Reports.{said, stopped, refused};
 ghost use Rattle.synmon_top.specs.Causes.{AsksToGenerate, HasVerdict, IsLacking, IsOrNoMemory, IsStatus};
-ghost use Rattle.synmon_top.specs.Outcome.{Ends, EndsOn, IsAboutFile, Runs, ending_of_fault};
+ghost use Rattle.report_outcome.specs.Outcome.{Ends, EndsOn, IsAboutFile, Runs, ending_of_fault};
 ghost use Rattle.synmon_top.specs.Headline.{Headline};
-ghost use Rattle.synmon_top.specs.declared.ending.Stop.{Stop};
+ghost use Rattle.report_outcome.specs.declared.ending.Stop.{Stop};
 
-use crate::ending::{Ending, tell};
-use crate::reporting::report;
 use command_line::{Command, LineFault, Request, read_line};
 use generated_file::generate_text;
+use report_outcome::{Ending, report, tell};
 use std::alloc::Global;
 use std::thread::Threads;
 use syn_outside::{Files, Gate, ReadFault, Sink, read_all};

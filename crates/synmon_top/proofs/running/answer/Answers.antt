@@ -2,9 +2,9 @@ use Rattle.std.proofs.Common.{◌∙◌, ◌+◌, sym, subst, map, rules, Global
 use Rattle.std.specs.Prelude.{string_bytes}
 use Rattle.syn_outside.specs.NamedFiles.{HasPrefix}
 use Rattle.automaton_file.specs.FileText.{most_bytes}
-use Rattle.synmon_top.specs.Outcome.{Ends}
-use Rattle.synmon_top.specs.declared.ending.Ending.{Ending}
-use Rattle.synmon_top.proofs.Outcomes.{ends_of_file, ends_of_fault, fault_is_no_read, fault_is_no_write}
+use Rattle.report_outcome.specs.Outcome.{Ends}
+use Rattle.report_outcome.specs.declared.ending.Ending.{Ending}
+use Rattle.report_outcome.proofs.Outcomes.{ends_of_file, ends_of_fault, fault_is_no_read, fault_is_no_write}
 use Rattle.synmon_top.proofs.running.answer.Goals as goal
 
 pub returns-in-Err-clause-ends : goal.returns-in-Err-clause-ends

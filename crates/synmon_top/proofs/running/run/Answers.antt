@@ -1,5 +1,5 @@
 use Rattle.std.proofs.Common.{sym, subst, true, false}
-use Rattle.synmon_top.specs.Reports.{said, stopped, refused}
+use Rattle.report_outcome.specs.Reports.{said, stopped, refused}
 use Rattle.synmon_top.specs.Causes.{IsOrNoMemory}
 use Rattle.synmon_top.proofs.Statuses.{verdict_told}
 use Rattle.synmon_top.proofs.Truths.{headline}

@@ -1,0 +1,10 @@
+//! How a run ends: the endings, their statuses and lines, and the report on a file's bytes.
+#![tactic(auto)]
+
+mod ending;
+mod reporting;
+#[cfg(test)]
+mod tests;
+
+pub use ending::{Ending, Stop, tell};
+pub use reporting::report;

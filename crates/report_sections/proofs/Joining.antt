@@ -1,0 +1,58 @@
+-- What several sections say, one after another.
+use Rattle.std.proofs.Common.{◌≡◌, ◌<◌, ◌+◌, ℕ, List, [], ◌∷◌, ◌++◌, length, take, drop, map, get_or, refl, sym, ap, ◌∙◌, subst, add-one, drop-cons}
+use Rattle.std.specs.List.{flat_map, list_any}
+use Rattle.std.proofs.lemmas.List.{map-append}
+use Rattle.std.proofs.Math.Seq.{take-suc}
+use Rattle.report_sections.specs.declared.sections.Section.{Section}
+use Rattle.report_sections.specs.Sections.{Limits, Said, IsSection, AreSections}
+
+-- one section more, behind the others
+sections-snoc : (limits : Limits) (signs : List ℕ) (L : List ℕ → Type 0) (sections : List Section)
+    (all : List Said) (s : Section) (one : Said)
+    → AreSections sections limits signs L all → IsSection s limits signs L one
+    → AreSections (sections ++ s ∷ []) limits signs L (all ++ one ∷ [])
+sections-snoc limits signs L [] [] s one h k = (k, tt)
+sections-snoc limits signs L [] (x ∷ more) s one h k = absurd h
+sections-snoc limits signs L (first ∷ rest) [] s one h k = absurd h
+sections-snoc limits signs L (first ∷ rest) (x ∷ more) s one h k =
+    (h.0, sections-snoc limits signs L rest more s one h.1 k)
+
+-- the next section of a list
+pub sections-next : {X : Type 0} (f : X → Said) (limits : Limits) (signs : List ℕ)
+    (L : List ℕ → Type 0) (sections : List Section) (i : ℕ) (d : Section) (answers : List X) (x : X)
+    → i < length sections → AreSections (take i sections) limits signs L (map f answers)
+    → IsSection (get_or sections i d) limits signs L (f x)
+    → AreSections (take (i + 1) sections) limits signs L (map f (answers ++ x ∷ []))
+sections-next f limits signs L sections i d answers x below h k =
+    let P : List Section
+    → Type 0 = λ ss. AreSections ss limits signs L (map f (answers ++ x ∷ [])) in
+    let Q : List Said → Type 0 = λ all. AreSections (take i sections ++ get_or sections i d ∷ [])
+    limits signs L all in
+    subst P (sym (ap (λ n. take n sections) (add-one i) ∙ take-suc sections i d below))
+    (subst Q (sym (map-append f answers (x ∷ [])))
+    (sections-snoc limits signs L (take i sections) (map f answers) (get_or sections i d) (f x)
+    h k))
+
+-- the texts from a place on: that of the place, and those behind it
+pub texts-next : {X : Type 0} (f : X → Said) (answers : List X) (i : ℕ) (d : X) → i < length answers
+    → (f (get_or answers i d)).text ++ flat_map (λ (one : Said). one.text)
+    (map f (drop (i + 1) answers))
+    ≡ flat_map (λ (one : Said). one.text) (map f (drop i answers))
+texts-next f answers i d below = rw (add-one, drop-cons answers i d) refl
+
+-- the same, where the answer at the place is named
+pub texts-of : {X : Type 0} (f : X → Said) (answers : List X) (i : ℕ) (x : X) → i < length answers
+    → x ≡ get_or answers i x
+    → (f x).text ++ flat_map (λ (one : Said). one.text) (map f (drop (i + 1) answers))
+    ≡ flat_map (λ (one : Said). one.text) (map f (drop i answers))
+texts-of f answers i x below is =
+    ap (λ y. (f y).text ++ flat_map (λ (one : Said). one.text) (map f (drop (i + 1) answers))) is
+    ∙ texts-next f answers i x below
+
+-- a limit from a place on: that of the place, or one behind it
+pub limits-next : {X : Type 0} (f : X → Said) (answers : List X) (i : ℕ) (d : X)
+    → i < length answers
+    → list_any (λ (one : Said). one.limited) (map f (drop i answers))
+    ≡ list_any (λ (one : Said). one.limited)
+    (f (get_or answers i d) ∷ map f (drop (i + 1) answers))
+limits-next f answers i d below = rw (add-one, drop-cons answers i d) refl

@@ -1,0 +1,9 @@
+pub mod Joining
+pub mod StarFreeLists
+pub mod Tables
+pub mod Diagrams
+pub mod Rules
+pub mod Recognised
+pub mod Locals
+pub mod OneSection
+pub mod Needs

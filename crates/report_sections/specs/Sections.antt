@@ -1,0 +1,268 @@
+-- The sections of a report: which sections a command prints, and what each says about a language.
+use Rattle.std.specs.Prelude.{◌||◌, ◌≡◌, ◌<◌, ◌≤◌, ℕ, Bool, false, List, [], ◌∷◌, Option, Some, None, is_none, IsTrue, ◌↔◌, ⊤, length}
+use Rattle.std.specs.List.{flat_map, list_any}
+use Rattle.language_theory.specs.Words.{word_at}
+use Rattle.language_theory.specs.Automaton.{is_marked}
+use Rattle.language_theory.specs.Congruence.{Syntactic}
+use Rattle.language_theory.specs.Nerode.{MinimalAutomaton, IsMinimal}
+use Rattle.monoid_theory.specs.Presentation.{AreRules}
+use Rattle.monoid_theory.specs.Products.{IsProduct}
+use Rattle.monoid_theory.specs.Green.{IsIdempotent}
+use Rattle.green_relations.specs.EggBoxes.{AreEggBoxes}
+use Rattle.parallel_table.specs.ProductTables.{ProductTable, cell}
+use Rattle.syntactic_monoid.specs.SyntacticMonoid.{SyntacticMonoid, IsSyntacticMonoid}
+use Rattle.command_line.specs.declared.commands.Command.{Command}
+use Rattle.command_line.specs.declared.commands.Command.TheVariants as command
+use Rattle.command_line.specs.declared.request.Request.{Request}
+use Rattle.report_text.specs.AutomatonSection.{automaton_text}
+use Rattle.report_text.specs.MonoidSection.{monoid_text}
+use Rattle.report_text.specs.declared.summary_section.Counts.{Counts}
+use Rattle.report_text.specs.SummarySection.{summary_text}
+use Rattle.report_text.specs.GreenSection.{marked, green_text, marks_below}
+use Rattle.report_text.specs.StarFreeSection.{star_free_text, is_star_free_limit}
+use Rattle.report_text.specs.PiecewiseSection.{piecewise_text, is_piecewise_limit, r_trivial_text}
+use Rattle.report_text.specs.LocalSection.{local_text, is_local_limit}
+use Rattle.report_text.specs.CommutativeSection.{commutative_text}
+use Rattle.report_text.specs.TableSection.{section_text}
+use Rattle.star_free.specs.declared.answer.SfAnswer.{SfAnswer}
+use Rattle.star_free.specs.Answer.{IsStarFreeAnswer, Tells as TellsStarFree}
+use Rattle.locally_testable.specs.declared.answer.LtAnswer.{LtAnswer}
+use Rattle.locally_testable.specs.Answer.{IsLocalAnswer, Tells}
+use Rattle.piecewise_testable.specs.declared.answer.PtAnswer.{PtAnswer}
+use Rattle.piecewise_testable.specs.declared.witness.PtWitness.{PtWitness}
+use Rattle.piecewise_testable.specs.declared.witness.CWitness.{CWitness}
+use Rattle.piecewise_testable.specs.Answers.{IsPiecewiseAnswer}
+use Rattle.piecewise_testable.specs.Witness.{IsRTrivialAnswer}
+use Rattle.piecewise_testable.specs.Commuting.{IsCommutativeAnswer}
+use Rattle.report_sections.specs.declared.sections.Section.{Section}
+use Rattle.report_sections.specs.declared.sections.Section.TheVariants as section
+
+-- the size of a generated file, and the numbers within which the sections answer
+pub record Limits : Type 0 where
+  pub size : ℕ
+  pub subsets : ℕ
+  pub elements : ℕ
+  pub table : ℕ
+  pub nodes : ℕ
+  pub level : ℕ
+  pub pairs : ℕ
+
+-- those of a request; its number of workers is none of them
+abbrev pub limits_of : Request → Limits
+limits_of r = record {
+  size = r.size;
+  subsets = r.subsets;
+  elements = r.elements;
+  table = r.table;
+  nodes =
+      r.nodes;
+  level = r.level;
+  pairs = r.pairs;
+}
+
+-- The table of commands: the sections that a command prints, in their order.
+abbrev pub sections_of : Command → List Section
+sections_of command.Automaton = section.Automaton ∷ []
+sections_of command.Monoid = section.Monoid ∷ []
+sections_of command.Green = section.Green ∷ []
+sections_of command.StarFree = section.StarFree ∷ []
+sections_of command.Piecewise = section.Piecewise ∷ []
+sections_of command.Local = section.Local ∷ []
+sections_of command.RTrivial = section.RTrivial ∷ []
+sections_of command.Commutative = section.Commutative ∷ []
+sections_of command.Table = section.Table ∷ []
+sections_of command.Report =
+    section.Automaton ∷ section.Monoid ∷ section.Green ∷ section.StarFree ∷ section.Piecewise
+    ∷ section.Local ∷ section.RTrivial ∷ section.Commutative ∷ []
+sections_of command.Generate = section.Summary ∷ []
+
+-- what a section says: its text, and whether the answer that it tells is a limit
+pub record Said : Type 0 where
+  pub text : List ℕ
+  pub limited : Bool
+
+-- the section `automaton`: the text of the minimal automaton
+pub record IsAutomatonSection (signs : List ℕ) (L : List ℕ → Type 0) (said : Said) : Type 0 where
+  pub automaton : MinimalAutomaton
+  pub minimal : IsMinimal (length signs) L automaton
+  pub text : said.text ≡ automaton_text signs automaton
+  pub unlimited : said.limited ≡ false
+
+-- The section `monoid`: the elements of the syntactic monoid, which are the classes of the syntactic
+-- congruence, each once by its least word, with both Cayley graphs; and the rules of that congruence.
+pub record IsMonoidSection (signs : List ℕ) (L : List ℕ → Type 0) (said : Said) : Type 0 where
+  pub monoid : SyntacticMonoid
+  pub syntactic : IsSyntacticMonoid (length signs) L monoid
+  pub rules : List (List ℕ × ℕ)
+  pub presentation : AreRules (length signs) (Syntactic (length signs) L) monoid.graphs.words rules
+  pub text : said.text ≡ monoid_text signs monoid rules
+  pub unlimited : said.limited ≡ false
+
+-- the idempotents among the elements of a congruence, and its egg-box diagram
+pub record AreBoxesFor (k : ℕ) (same : List ℕ → List ℕ → Type 0) (words : List (List ℕ))
+    (idempotents : List Bool) (boxes : List (List (List (List ℕ)))) : Type 0 where
+  pub marks : length idempotents ≡ length words
+  pub idempotent : (i : ℕ) → i < length words
+      → IsTrue (is_marked idempotents i) ↔ IsIdempotent same (word_at words i)
+  pub diagram : AreEggBoxes k same words boxes
+
+-- The section `green`: the egg-box diagram of the syntactic monoid. The boxes are its classes of J,
+-- their rows those of R, their columns those of L, their cells those of H.
+pub record IsGreenSection (signs : List ℕ) (L : List ℕ → Type 0) (said : Said) : Type 0 where
+  pub monoid : SyntacticMonoid
+  pub syntactic : IsSyntacticMonoid (length signs) L monoid
+  pub idempotents : List Bool
+  pub boxes : List (List (List (List ℕ)))
+  pub diagram : AreBoxesFor (length signs) (Syntactic (length signs) L) monoid.graphs.words
+      idempotents boxes
+  pub text : said.text ≡ green_text signs (marked monoid.graphs.words idempotents) boxes
+  pub unlimited : said.limited ≡ false
+
+-- The section `starfree`: a star-free list of the language, words whose powers never settle, or the
+-- limit that was met; a table of products is there where there are no more elements than its limit.
+pub record IsStarFreeSection (limits : Limits) (signs : List ℕ) (L : List ℕ → Type 0)
+    (said : Said) : Type 0 where
+  pub monoid : SyntacticMonoid
+  pub syntactic : IsSyntacticMonoid (length signs) L monoid
+  pub has_table : Bool
+  pub table : IsTrue has_table ↔ (length monoid.graphs.words ≤ limits.table)
+  pub answer : SfAnswer
+  pub answered : IsStarFreeAnswer (length signs) L monoid limits.nodes has_table answer
+  pub tells : TellsStarFree (length signs) L answer
+  pub text : said.text ≡ star_free_text signs limits.table limits.nodes answer
+  pub limited : said.limited ≡ is_star_free_limit answer
+
+-- The section `piecewise`: the least length of subwords that tells the language, words that no
+-- length tells apart, or the limit that was met.
+pub record IsPiecewiseSection (limits : Limits) (signs : List ℕ) (L : List ℕ → Type 0)
+    (said : Said) : Type 0 where
+  pub answer : PtAnswer
+  pub answered : IsPiecewiseAnswer (length signs) L limits.pairs limits.level answer
+  pub text : said.text ≡ piecewise_text signs answer
+  pub limited : said.limited ≡ is_piecewise_limit answer
+
+-- The section `local`: the least level of factors that tells the language, words that no level tells
+-- apart, or the limit that was met; a table of products is there where there are no more elements
+-- than its limit.
+pub record IsLocalSection (limits : Limits) (signs : List ℕ) (L : List ℕ → Type 0)
+    (said : Said) : Type 0 where
+  pub monoid : SyntacticMonoid
+  pub syntactic : IsSyntacticMonoid (length signs) L monoid
+  pub has_table : Bool
+  pub table : IsTrue has_table ↔ (length monoid.graphs.words ≤ limits.table)
+  pub answer : LtAnswer
+  pub answered : IsLocalAnswer (length signs) L monoid.graphs.words has_table limits.level
+      limits.pairs answer
+  pub tells : Tells (length signs) L answer
+  pub text : said.text ≡ local_text signs limits.table answer
+  pub limited : said.limited ≡ is_local_limit answer
+
+-- The section `rtrivial`: the syntactic monoid is R-trivial, or words show that it is not.
+pub record IsRTrivialSection (signs : List ℕ) (L : List ℕ → Type 0) (said : Said) : Type 0 where
+  pub answer : Option PtWitness
+  pub answered : IsRTrivialAnswer (length signs) L answer
+  pub text : said.text ≡ r_trivial_text signs answer
+  pub unlimited : said.limited ≡ false
+
+-- The section `commutative`: the syntactic monoid is commutative, or words show that it is not.
+pub record IsCommutativeSection (signs : List ℕ) (L : List ℕ → Type 0) (said : Said) : Type 0 where
+  pub answer : Option CWitness
+  pub answered : IsCommutativeAnswer (length signs) L answer
+  pub text : said.text ≡ commutative_text signs answer
+  pub unlimited : said.limited ≡ false
+
+-- the table has the products of the classes of a relation that have these representatives
+pub record AreProducts (same : List ℕ → List ℕ → Type 0) (words : List (List ℕ))
+    (t : ProductTable) : Type 0 where
+  pub side : t.side ≡ length words
+  pub each : (i j : ℕ) → i < t.side → j < t.side → IsProduct same words i j (cell t i j)
+
+-- a table of all products, or none where there are more elements than the limit
+abbrev pub IsTableWithin : ℕ → (List ℕ → List ℕ → Type 0) → List (List ℕ) → Option ProductTable
+    → Type 0
+IsTableWithin most same words None = most < length words
+IsTableWithin most same words (Some t) = (length words ≤ most) × AreProducts same words t
+
+-- The section `table`: all products in the syntactic monoid, or that it has more elements than the
+-- limit.
+pub record IsTableSection (most : ℕ) (signs : List ℕ) (L : List ℕ → Type 0) (said : Said) : Type 0
+  where
+    pub monoid : SyntacticMonoid
+    pub syntactic : IsSyntacticMonoid (length signs) L monoid
+    pub table : Option ProductTable
+    pub products : IsTableWithin most (Syntactic (length signs) L) monoid.graphs.words table
+    pub text : said.text ≡ section_text table most
+    pub limited : said.limited ≡ is_none table
+
+-- the counts of a language: the states of its minimal automaton, the elements of its syntactic
+-- monoid, the rules, the boxes and the idempotents
+pub record AreCounts (size : ℕ) (signs : List ℕ) (L : List ℕ → Type 0) (counts : Counts) : Type 0
+  where
+    pub generated : counts.size ≡ size
+    pub automaton : MinimalAutomaton
+    pub minimal : IsMinimal (length signs) L automaton
+    pub states : counts.states ≡ automaton.graph.size
+    pub monoid : SyntacticMonoid
+    pub syntactic : IsSyntacticMonoid (length signs) L monoid
+    pub elements : counts.elements ≡ length monoid.graphs.words
+    pub list : List (List ℕ × ℕ)
+    pub presentation : AreRules (length signs) (Syntactic (length signs) L) monoid.graphs.words list
+    pub rules : counts.rules ≡ length list
+    pub marks : List Bool
+    pub diagram : List (List (List (List ℕ)))
+    pub egg_boxes : AreBoxesFor (length signs) (Syntactic (length signs) L) monoid.graphs.words
+        marks diagram
+    pub boxes : counts.boxes ≡ length diagram
+    pub idempotents : counts.idempotents ≡ marks_below marks (length monoid.graphs.words)
+
+-- The section `summary`: the size of the generated file, the counts of its language, and the first
+-- line each of five sections.
+pub record IsSummarySection (limits : Limits) (signs : List ℕ) (L : List ℕ → Type 0)
+    (said : Said) : Type 0 where
+  pub counts : Counts
+  pub counted : AreCounts limits.size signs L counts
+  pub star_free : Said
+  pub star_free_said : IsStarFreeSection limits signs L star_free
+  pub piecewise : Said
+  pub piecewise_said : IsPiecewiseSection limits signs L piecewise
+  pub local : Said
+  pub local_said : IsLocalSection limits signs L local
+  pub r_trivial : Said
+  pub r_trivial_said : IsRTrivialSection signs L r_trivial
+  pub commutative : Said
+  pub commutative_said : IsCommutativeSection signs L commutative
+  pub text : said.text ≡ summary_text counts star_free.text piecewise.text local.text
+      r_trivial.text commutative.text
+  pub limited : said.limited ≡ (star_free.limited || (piecewise.limited || local.limited))
+
+-- The table of sections: what each says about the language L over the letters with these signs,
+-- within the limits.
+abbrev pub IsSection : Section → Limits → List ℕ → (List ℕ → Type 0) → Said → Type 0
+IsSection section.Automaton limits signs L said = IsAutomatonSection signs L said
+IsSection section.Monoid limits signs L said = IsMonoidSection signs L said
+IsSection section.Green limits signs L said = IsGreenSection signs L said
+IsSection section.StarFree limits signs L said = IsStarFreeSection limits signs L said
+IsSection section.Piecewise limits signs L said = IsPiecewiseSection limits signs L said
+IsSection section.Local limits signs L said = IsLocalSection limits signs L said
+IsSection section.RTrivial limits signs L said = IsRTrivialSection signs L said
+IsSection section.Commutative limits signs L said = IsCommutativeSection signs L said
+IsSection section.Table limits signs L said = IsTableSection limits.table signs L said
+IsSection section.Summary limits signs L said = IsSummarySection limits signs L said
+
+-- what each of these sections says, one after another
+abbrev pub AreSections : List Section → Limits → List ℕ → (List ℕ → Type 0) → List Said → Type 0
+AreSections [] limits signs L [] = ⊤
+AreSections [] limits signs L (one ∷ more) = ⊥
+AreSections (first ∷ rest) limits signs L [] = ⊥
+AreSections (first ∷ rest) limits signs L (one ∷ more) = IsSection first limits signs L one
+    × AreSections rest limits signs L more
+
+-- The texts of several sections are joined; one of their answers is a limit, or none.
+abbrev pub joined : List Said → Said
+joined all = record
+    { text = flat_map (λ one. one.text) all; limited = list_any (λ one. one.limited) all }
+
+-- what these sections say together
+abbrev pub AreSaid : List Section → Limits → List ℕ → (List ℕ → Type 0) → Said → Type 0
+AreSaid sections limits signs L said = (all : List Said) × AreSections sections limits signs L all
+    × (said ≡ joined all)

@@ -1,0 +1,143 @@
+//! The answers of the sections that ask something of the language.
+ghost use Rattle.std.specs.Prelude.{◌≡◌, length, Some, IfOk};
+ghost use Rattle.report_text.specs.StarFreeSection.{IsStarFreeOver, is_star_free_limit};
+ghost use Rattle.report_text.specs.PiecewiseSection.{IsPiecewiseOver, IsRTrivialOver, is_piecewise_limit};
+ghost use Rattle.report_text.specs.LocalSection.{IsLocalOver, is_local_limit};
+ghost use Rattle.report_text.specs.CommutativeSection.{IsCommutativeOver};
+ghost use Rattle.automaton_file.specs.FileText.{language_of};
+ghost use Rattle.syntactic_monoid.specs.SyntacticMonoid.{SyntacticMonoid};
+ghost use Rattle.report_sections.specs.Sections.{IsStarFreeSection, IsPiecewiseSection, IsLocalSection, IsRTrivialSection, IsCommutativeSection};
+ghost use Rattle.report_sections.specs.Answers.{AreValues, HasGreen, HasTable, values_of, star_free_said, piecewise_said, local_said, r_trivial_said, commutative_said};
+
+use crate::answers::Values;
+use locally_testable::{LtAnswer, local};
+use piecewise_testable::{CWitness, PtAnswer, PtWitness, commutative, piecewise, r_trivial};
+use star_free::{SfAnswer, star_free};
+use std::alloc::Global;
+use syn_words::Memory;
+
+/// The answer of the section `starfree`. Conditions: the values are those of the source's language, and the monoid is
+/// there, with the table of its products where it is within its limit.
+pub(crate) fn answer_star_free(alloc: Global, values: &Values<'_>) -> Result<SfAnswer, Memory>
+    requires values { AreValues (values_of values.now) }
+    requires needs { HasTable (values_of values.now) }
+    ensures sayable { IfOk result (λ answer.
+        IsStarFreeOver (length (values_of values.now).source.letters) answer) }
+    ensures said { IfOk result (λ answer. IsStarFreeSection (values_of values.now).limits
+        (values_of values.now).source.letters (language_of (values_of values.now).source)
+        (star_free_said (values_of values.now) answer)) }
+{
+    let monoid = values.monoid.as_ref().unwrap();
+    let table = values.table.as_ref();
+    let answer = star_free(alloc, monoid, table, values.request.nodes)?;
+    Ok(answer)
+}
+
+/// The answer of the section `piecewise`. Conditions: the values are those of the source's language, and the monoid and
+/// its classes are there.
+pub(crate) fn answer_piecewise(alloc: Global, values: &Values<'_>) -> Result<PtAnswer, Memory>
+    requires values { AreValues (values_of values.now) }
+    requires needs { HasGreen (values_of values.now) }
+    ensures sayable { IfOk result (λ answer.
+        IsPiecewiseOver (length (values_of values.now).source.letters) answer) }
+    ensures said { IfOk result (λ answer. IsPiecewiseSection (values_of values.now).limits
+        (values_of values.now).source.letters (language_of (values_of values.now).source)
+        (piecewise_said (values_of values.now) answer)) }
+{
+    let monoid = values.monoid.as_ref().unwrap();
+    let green = values.green.as_ref().unwrap();
+    let limits = values.request;
+    let answer = piecewise(alloc, monoid, green, values.dfa, limits.level, limits.pairs)?;
+    Ok(answer)
+}
+
+/// The answer of the section `local`. Conditions: the values are those of the source's language, and the monoid is
+/// there, with the table of its products where it is within its limit.
+pub(crate) fn answer_local(alloc: Global, values: &Values<'_>) -> Result<LtAnswer, Memory>
+    requires values { AreValues (values_of values.now) }
+    requires needs { HasTable (values_of values.now) }
+    ensures sayable { IfOk result (λ answer.
+        IsLocalOver (length (values_of values.now).source.letters) answer) }
+    ensures said { IfOk result (λ answer. IsLocalSection (values_of values.now).limits
+        (values_of values.now).source.letters (language_of (values_of values.now).source)
+        (local_said (values_of values.now) answer)) }
+{
+    let monoid = values.monoid.as_ref().unwrap();
+    let table = values.table.as_ref();
+    let limits = values.request;
+    let answer = local(alloc, monoid, table, values.dfa, limits.level, limits.pairs)?;
+    Ok(answer)
+}
+
+/// The answer of the section `rtrivial`. Conditions: the values are those of the source's language, and the monoid and
+/// its classes are there.
+pub(crate) fn answer_r_trivial(
+    alloc: Global,
+    values: &Values<'_>,
+) -> Result<Option<PtWitness>, Memory>
+    requires values { AreValues (values_of values.now) }
+    requires needs { HasGreen (values_of values.now) }
+    ensures sayable { IfOk result (λ answer.
+        IsRTrivialOver (length (values_of values.now).source.letters) answer) }
+    ensures said { IfOk result (λ answer. IsRTrivialSection
+        (values_of values.now).source.letters (language_of (values_of values.now).source)
+        (r_trivial_said (values_of values.now) answer)) }
+{
+    let monoid = values.monoid.as_ref().unwrap();
+    let green = values.green.as_ref().unwrap();
+    let answer = r_trivial(alloc, monoid, green)?;
+    Ok(answer)
+}
+
+/// The answer of the section `commutative`. Conditions: the values are those of the source's language, and the monoid
+/// is there.
+pub(crate) fn answer_commutative(
+    alloc: Global,
+    values: &Values<'_>,
+) -> Result<Option<CWitness>, Memory>
+    requires values { AreValues (values_of values.now) }
+    requires needs { (m : SyntacticMonoid) × ((values_of values.now).monoid ≡ Some m) }
+    ensures sayable { IfOk result (λ answer.
+        IsCommutativeOver (length (values_of values.now).source.letters) answer) }
+    ensures said { IfOk result (λ answer. IsCommutativeSection
+        (values_of values.now).source.letters (language_of (values_of values.now).source)
+        (commutative_said (values_of values.now) answer)) }
+{
+    let monoid = values.monoid.as_ref().unwrap();
+    let answer = commutative(alloc, monoid)?;
+    Ok(answer)
+}
+
+/// Whether the answer of the section `starfree` is a limit.
+pub(crate) fn is_star_free_limit(answer: &SfAnswer) -> bool
+    ensures { result ≡ is_star_free_limit answer.now }
+{
+    match answer {
+        SfAnswer::Yes(_) | SfAnswer::No(_) => false,
+        SfAnswer::TableLimit | SfAnswer::Depth | SfAnswer::Nodes => true,
+    }
+}
+
+/// Whether the answer of the section `piecewise` is a limit.
+pub(crate) fn is_piecewise_limit(answer: &PtAnswer) -> bool
+    ensures { result ≡ is_piecewise_limit answer.now }
+{
+    match answer {
+        PtAnswer::Yes(_) | PtAnswer::No(_) => false,
+        PtAnswer::Wide(_) | PtAnswer::Pairs(_) | PtAnswer::NoneTo(_) => true,
+    }
+}
+
+/// Whether the answer of the section `local` is a limit.
+pub(crate) fn is_local_limit(answer: &LtAnswer) -> bool
+    ensures { result ≡ is_local_limit answer.now }
+{
+    match answer {
+        LtAnswer::Yes(_) | LtAnswer::No(_) => false,
+        LtAnswer::TableLimit
+        | LtAnswer::WorkLimit
+        | LtAnswer::Wide(_)
+        | LtAnswer::Pairs(_)
+        | LtAnswer::NoneTo(_) => true,
+    }
+}
