@@ -1,14 +1,10 @@
 -- Keys that are seen through a function: the places and the insertions are the same.
-use Rattle.std.proofs.Common.{◌≡◌, ℕ, suc, ◌+◌, Bool, true, false, cond, List, [], ◌∷◌, ◌++◌, Some, None, length, refl, ap, sym, ◌∙◌}
-use Rattle.std.specs.Prelude.{map, not, ◌||◌, nat_lt, position}
+use Rattle.std.proofs.Common.{◌≡◌, ℕ, ◌+◌, Bool, true, false, cond, List, [], ◌∷◌, ◌++◌, refl, ap, sym, ◌∙◌}
+use Rattle.std.specs.Prelude.{map, not, ◌||◌}
 use Rattle.std.specs.List.{list_any, position_or_len}
 use Rattle.indexmap.specs.IndexSet.{insert_key}
 
 module _ {X Y : Type 0} (f : X → Y) (q : Y → Bool) where
-  map_long : (xs : List X) → length (map f xs) ≡ length xs
-  map_long [] = refl
-  map_long (x ∷ xs) = ap (λ (n : ℕ). suc n) (map_long xs)
-
   pub list_any_map : (xs : List X) → list_any q (map f xs) ≡ list_any (λ x. q (f x)) xs
   list_any_map [] = refl
   list_any_map (x ∷ xs) = ap (λ (b : Bool). q (f x) || b) (list_any_map xs)
@@ -16,12 +12,6 @@ module _ {X Y : Type 0} (f : X → Y) (q : Y → Bool) where
   pub place_map : (xs : List X) → position_or_len q (map f xs) ≡ position_or_len (λ x. q (f x)) xs
   place_map [] = refl
   place_map (x ∷ xs) = ap (λ (n : ℕ). cond (not (q (f x))) (1 + n) 0) (place_map xs)
-
-  pub position_map : (xs : List X) → position q (map f xs) ≡ position (λ x. q (f x)) xs
-  position_map xs =
-      ap (λ (n : ℕ). cond (nat_lt n (length (map f xs))) (Some n) None) (place_map xs)
-      ∙ ap (λ (n : ℕ). cond (nat_lt (position_or_len (λ x. q (f x)) xs) n)
-      (Some (position_or_len (λ x. q (f x)) xs)) None) (map_long xs)
 
 module _ {X Y : Type 0} (f : X → Y) (eq : Y → Y → Bool) where
   map_push : (xs : List X) (x : X) → map f (xs ++ x ∷ []) ≡ map f xs ++ f x ∷ []

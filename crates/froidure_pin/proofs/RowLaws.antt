@@ -1,9 +1,11 @@
 -- Rows of images: where words take the points, and how rows number words.
+use Rattle.std.proofs.Common.{◌≤◌, ◌-◌, take, Result, Ok, Err, OnErr}
 use Rattle.std.proofs.Common.{◌≡◌, ℕ, ◌+◌, ◌*◌, ◌<◌, ◌↔◌, true, List, [], ◌∷◌, ◌++◌, Some, length, refl, ap, sym, subst, ◌∙◌, arith, get_or, nat_eq, inl, inr}
 use Rattle.std.specs.Prelude.{position, slice_index, All}
-use Rattle.std.specs.List.{position_or_len}
+use Rattle.std.specs.List.{position_or_len, list_any}
+use Rattle.std.proofs.Math.Seq.{take-append_seam}
 use Rattle.std.specs.Bool.{Decides}
-use Rattle.std.proofs.lemmas.Bool.{lt-ltb}
+use Rattle.std.proofs.lemmas.Bool.{cases_Bool}
 use Rattle.std.proofs.lemmas.Bool.Decides.{Decides-eqb}
 use Rattle.std.specs.Cmp.Lexicographic.{pointwise}
 use Rattle.std.proofs.lemmas.Slice.Eq.{slice_eq-Decides}
@@ -178,32 +180,50 @@ point_rows m rows h =
     own : (i : ℕ) (hi : i < length rows) → row_of m (word i hi) ≡ row_at rows i
     own i hi = row_at_number m rows (word i hi) i (h.numbered.used i hi).2
 
--- a next row that was seen is that of the number where it stands
-pub found_next : (m : Maps) (rows : List (List ℕ)) (i a n : ℕ) (x : List ℕ) → IsNextRow m rows i a x
-    → position (pointwise nat_eq x) rows ≡ Some n
-    → IsNext m.letters (number_of m rows) (number_of m rows) i a n
-found_next m rows i a n x h f =
-    record {
-      leads =
-          λ w o e. subst (λ (r : List ℕ). position (pointwise nat_eq r) rows ≡ Some n)
-          (sym (next_row_is m rows i a x w h e)) f;
-    }
-
-pub found_within : (rows : List (List ℕ)) (n : ℕ) (x : List ℕ)
-    → position (pointwise nat_eq x) rows ≡ Some n → n < length rows
-found_within rows n x f = (position_is (pointwise nat_eq x) rows n f).1
-
 -- a row that was not seen gets the next number
 pub new_counts : (rows : List (List ℕ)) (x : List ℕ)
-    → ((n : ℕ) → position (pointwise nat_eq x) rows ≡ Some n → ⊥)
+    → length rows ≤ position_or_len (pointwise nat_eq x) rows
     → (position_or_len (pointwise nat_eq x) rows ≡ length rows)
     × (length (insert_key (pointwise nat_eq) rows x) ≡ length rows + 1)
-new_counts rows x none = elim (seen_counts rows x) [
-  | inl c ↦ absurd
-      (none (position_or_len (pointwise nat_eq x) rows)
-      (rw (lt-ltb (position_or_len (pointwise nat_eq x) rows) (length rows) c.0) refl))
+new_counts rows x l = elim (seen_counts rows x) [
+  | inl c ↦ absurd (omega (arith, l, c.0))
   | inr c ↦ c
 ]
+
+-- where a row was seen, there are as many as before
+pub known_counts : (rows : List (List ℕ)) (x : List ℕ)
+    → position_or_len (pointwise nat_eq x) rows < length rows
+    → length (insert_key (pointwise nat_eq) rows x) ≡ length rows
+known_counts rows x l = elim (seen_counts rows x) [
+  | inl c ↦ c.1
+  | inr c ↦ absurd (omega (arith, l, c.0))
+]
+
+-- without the new row, the rows are as before
+pub last_out : (rows : List (List ℕ)) (x : List ℕ)
+    → length rows ≤ position_or_len (pointwise nat_eq x) rows
+    → take (length (insert_key (pointwise nat_eq) rows x) - 1) (insert_key (pointwise nat_eq) rows x)
+    ≡ rows
+last_out rows x l =
+    let n = (new_counts rows x l).1 in
+    elim (cases_Bool (list_any (pointwise nat_eq x) rows)) [
+      | inl e ↦
+          let g : insert_key (pointwise nat_eq) rows x ≡ rows = rw e refl in
+          let m : length (insert_key (pointwise nat_eq) rows x) ≡ length rows =
+          ap (λ (zs : List (List ℕ)). length zs) g in
+          absurd (omega (arith, n, m))
+      | inr e ↦
+          let g : insert_key (pointwise nat_eq) rows x ≡ rows ++ x ∷ [] = rw e refl in
+          let m : length (insert_key (pointwise nat_eq) rows x) - 1 ≡ length rows =
+          omega (arith, n) in
+          ap (λ (k : ℕ). take k (insert_key (pointwise nat_eq) rows x)) m
+          ∙ ap (take (length rows)) g ∙ take-append_seam rows (x ∷ [])
+    ]
+
+-- what holds, holds where there is a fault
+pub on_err : {T E P : Type 0} (r : Result T E) → P → OnErr r P
+on_err (Ok v) h = tt
+on_err (Err e) h = h
 
 -- the rows of jobs can be made where there is a place for each
 pub can_make : (m : Maps) (rows : List (List ℕ)) (jobs : List Job) (n : ℕ) → AreSeen m rows

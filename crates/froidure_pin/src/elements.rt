@@ -1,9 +1,10 @@
 //! The elements that were found, and the targets that are read from the graphs that are there.
-ghost use Rattle.std.specs.Prelude.{◌≡◌, ◌<◌, ◌≤◌, ◌+◌, ◌-◌, ◌*◌, ◌^◌, ◌++◌, [], ◌∷◌, length, slice_get, map, All, Some, true, false, IfOk, OnOk, OnErr};
+ghost use Rattle.std.specs.Prelude.{◌≡◌, ◌<◌, ◌≤◌, ◌+◌, ◌-◌, ◌*◌, ◌^◌, ◌++◌, [], ◌∷◌, length, take, slice_get, map, All, Some, true, false, IfOk, OnOk, OnErr};
 ghost use Rattle.std.specs.List.{range_with_len};
 ghost use Rattle.exploration.specs.States.{AreKept, IsNext, IsCounted};
 ghost use Rattle.cayley_tables.specs.CayleyGraphs.{AreGraphsOf};
 ghost use Rattle.cayley_tables.specs.LeftRows.{GoesOn};
+ghost use Rattle.cayley_tables.specs.Links.{with_link};
 ghost use Rattle.froidure_pin.specs.Maps.{AreMaps, SameMap};
 ghost use Rattle.froidure_pin.specs.Rows.{number_of, AreSeen, AreRowsOf};
 ghost use Rattle.froidure_pin.specs.Batches.{IsJob, IsNextRow, AreMore};
@@ -309,37 +310,54 @@ impl<'a> Elements<'a> {
             (targets.now ++ n ∷ [])) }
         ensures err { OnErr result (length self.new.rows ≡ length self.old.rows) }
     {
-        if let Some(number) = self.rows.find(row) {
+        let (rest, first) = self.ends_of(targets, job);
+        let before = self.rows.len();
+        let number = self.rows.see(row)?;
+        if number < before {
             return Ok(number);
         }
-        self.link(targets, job)?;
-        let number = self.rows.see(row)?;
+        self.link(job, rest, first)?;
         Ok(number)
     }
 
-    /// Links a new element: it is the element of the job followed by its letter. After `Memory` nothing is said of the
-    /// links.
-    fn link(&mut self, targets: &[u32], job: Job) -> Result<(), Memory>
-        requires ready { IsReady self.old.generators.now self.old.rows self.old.progress targets.now }
-        requires job { IsCurrent self.old.generators.now self.old.progress job }
-        ensures generators { self.new.generators ≡ self.old.generators }
-        ensures rows { self.new.rows ≡ self.old.rows }
-        ensures links { OnOk result
-            (self.new.progress ≡ record self.old.progress {
-              links =
-                  next_links self.old.generators.now.letters targets.now self.old.progress.links
-                  job.element job.letter;
-            }) }
+    /// Of the word of the job's element followed by its letter: the element of that word without its first letter, and
+    /// that letter.
+    fn ends_of(&self, targets: &[u32], job: Job) -> (u32, u8)
+        requires ready { IsReady self.now.generators.now self.now.rows self.now.progress targets.now }
+        requires job { IsCurrent self.now.generators.now self.now.progress job }
+        ensures { with_link self.now.progress.links job.element job.letter result.0 result.1
+            ≡ next_links self.now.generators.now.letters targets.now self.now.progress.links
+            job.element job.letter }
     {
         if job.element == 0 {
-            self.progress.links.push(0, job.letter, 0, job.letter)?;
-            return Ok(());
+            return (0, job.letter);
         }
         let rest = self.rest(targets, job);
         let first = self.progress.links.first(job.element);
-        self.progress
+        (rest, first)
+    }
+
+    /// Links the last element, which is new: it is the element of the job followed by its letter. After `Memory` it is
+    /// not there any more, and nothing is said of the links.
+    fn link(&mut self, job: Job, rest: u32, first: u8) -> Result<(), Memory>
+        requires some { 0 < length self.old.rows }
+        ensures generators { self.new.generators ≡ self.old.generators }
+        ensures rows { OnOk result (self.new.rows ≡ self.old.rows) }
+        ensures links { OnOk result
+            (self.new.progress ≡ record self.old.progress {
+              links = with_link self.old.progress.links job.element job.letter rest first;
+            }) }
+        ensures err { OnErr result
+            (self.new.rows ≡ take (length self.old.rows - 1) self.old.rows) }
+    {
+        if let Err(fault) = self
+            .progress
             .links
-            .push(job.element, job.letter, rest, first)?;
+            .push(job.element, job.letter, rest, first)
+        {
+            self.rows.take_out_last();
+            return Err(fault);
+        }
         Ok(())
     }
 }

@@ -1,5 +1,5 @@
 //! The rows of images of the elements that were found, each once.
-ghost use Rattle.std.specs.Prelude.{◌≡◌, ◌<◌, ◌-◌, ◌^◌, [], length, slice_index, position, nat_eq, IfOk, OnOk, OnErr};
+ghost use Rattle.std.specs.Prelude.{◌≡◌, ◌<◌, ◌-◌, ◌^◌, [], length, take, slice_index, nat_eq, IfOk, OnOk, OnErr};
 ghost use Rattle.std.specs.List.{position_or_len};
 ghost use Rattle.std.specs.Cmp.Lexicographic.{pointwise};
 ghost use Rattle.indexmap.specs.IndexSet.{insert_key};
@@ -62,16 +62,6 @@ impl Rows {
         self.row(i)[point as usize]
     }
 
-    /// The place of a row, if it is there.
-    pub(crate) fn find(&self, row: &[u32]) -> Option<u32>
-        ensures { result ≡ position (pointwise nat_eq row.now) self.now }
-    {
-        match self.rows.get_index_of(row) {
-            Some(place) => Some(place as u32),
-            None => None,
-        }
-    }
-
     /// The place of a row, which is put last if it was not there. After `Memory` the rows are as they were.
     pub(crate) fn see(&mut self, row: &[u32]) -> Result<u32, Memory>
         requires room { length self.old < 2 ^ 32 - 1 }
@@ -82,6 +72,14 @@ impl Rows {
         let own = Vec::from_slice(self.alloc, row)?;
         let (place, _) = self.rows.insert_full(own)?;
         Ok(place as u32)
+    }
+
+    /// Takes the last row out. Condition: there is one.
+    pub(crate) fn take_out_last(&mut self)
+        requires { 0 < length self.old }
+        ensures { self.new ≡ take (length self.old - 1) self.old }
+    {
+        let _ = self.rows.pop();
     }
 }
 

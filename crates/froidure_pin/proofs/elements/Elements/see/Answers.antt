@@ -1,69 +1,38 @@
-use Rattle.std.proofs.Common.{◌≡◌, ◌+◌, ℕ, List, length, refl, sym, ap, subst, ◌∙◌, nat_eq}
+use Rattle.std.proofs.Common.{◌≡◌, ◌≤◌, ◌<◌, ◌-◌, ℕ, List, length, take, refl, ap, ◌∙◌, subst, sym, nat_eq, arith}
 use Rattle.std.specs.List.{position_or_len}
 use Rattle.std.specs.Cmp.Lexicographic.{pointwise}
 use Rattle.indexmap.specs.IndexSet.{insert_key}
 use Rattle.exploration.specs.States.{AreKept, IsNext}
+use Rattle.cayley_tables.specs.Links.{with_link}
 use Rattle.froidure_pin.specs.Rows.{number_of, AreSeen}
-use Rattle.froidure_pin.specs.Search.{next_links}
-use Rattle.froidure_pin.proofs.RowLaws.{found_next, found_within, new_counts, seen_keeps, seen_next, seen_counts}
+use Rattle.froidure_pin.proofs.RowLaws.{new_counts, known_counts, last_out, on_err, seen_keeps, seen_next, seen_counts}
 use Rattle.froidure_pin.proofs.Ready.{ready_meets, ready_finds, next_seen}
 use Rattle.froidure_pin.proofs.elements.Elements.see.Goals as goal
+use Rattle.froidure_pin.proofs.elements.Elements.see.Goals.{In_ok-number, Else-number-before, In_err-link}
 
-pub returns-in-Some-clause-next : goal.returns-in-Some-clause-next
-returns-in-Some-clause-next c =
-    found_next c.args.self.now.generators.now c.args.self.now.rows c.args.job.element
-    c.args.job.letter c.in-Some.number c.args.row.now c.requires.row
-    (sym c.find.ensures ∙ c.in-Some.is)
-
-pub returns-in-Some-clause-ready : goal.returns-in-Some-clause-ready
-returns-in-Some-clause-ready c =
-    let s = c.args.self.now in
-    let q = c.requires in
-    let at = sym c.find.ensures ∙ c.in-Some.is in
-    ready_meets s.generators.now s.rows s.progress c.args.targets.now q.ready q.seen
-    c.args.job.element c.args.job.letter q.job.from q.job.to q.job.letter q.here s.rows c.in-Some.number
-    q.seen (record { kept = λ w n o e. e })
-    (found_next s.generators.now s.rows c.args.job.element c.args.job.letter c.in-Some.number
-    c.args.row.now q.row at) (found_within s.rows c.in-Some.number c.args.row.now at) refl
-
-pub returns-in_err-link-clause-kept : goal.returns-in_err-link-clause-kept
-returns-in_err-link-clause-kept c =
-    rw (c.in_err-link.ensures.generators, c.in_err-link.ensures.rows)
-    (record { kept = λ w n o e. e })
-
-pub returns-in_err-number-clause-kept : goal.returns-in_err-number-clause-kept
-returns-in_err-number-clause-kept c =
-    rw (c.in_err-number.ensures.err, c.in_ok-link.ensures.generators, c.in_ok-link.ensures.rows)
-    (record { kept = λ w n o e. e })
-
--- the rows with the new one
-rows_are : (c : goal.In_ok-number)
+-- the rows with the one that is seen, which may be there already
+rows_are : (c : In_ok-number)
     → c.see.new.self ≡ insert_key (pointwise nat_eq) c.args.self.now.rows c.args.row.now
-rows_are c =
-    c.in_ok-number.ensures.rows
-    ∙ ap (λ (rows : List (List ℕ)). insert_key (pointwise nat_eq) rows c.args.row.now)
-    c.in_ok-link.ensures.rows
+rows_are c = c.in_ok-number.ensures.rows
 
-number_is : (c : goal.In_ok-number)
+number_is : (c : In_ok-number)
     → c.in_ok-number.number ≡ position_or_len (pointwise nat_eq c.args.row.now) c.args.self.now.rows
-number_is c =
-    c.in_ok-number.ensures.place
-    ∙ ap (position_or_len (pointwise nat_eq c.args.row.now)) c.in_ok-link.ensures.rows
+number_is c = c.in_ok-number.ensures.place
 
-again : (c : goal.In_ok-number) → AreSeen c.args.self.now.generators.now c.see.new.self
+again : (c : In_ok-number) → AreSeen c.args.self.now.generators.now c.see.new.self
 again c = let s = c.args.self.now in let q = c.requires in
     subst (AreSeen s.generators.now) (sym (rows_are c))
     (next_seen s.generators.now s.rows s.progress c.args.targets.now q.ready q.seen
     c.args.job.element c.args.job.letter q.job.from q.job.to q.job.letter c.args.row.now q.row)
 
-kept : (c : goal.In_ok-number)
+kept : (c : In_ok-number)
     → AreKept c.args.self.now.generators.now.letters
     (number_of c.args.self.now.generators.now c.args.self.now.rows)
     (number_of c.args.self.now.generators.now c.see.new.self)
 kept c = let s = c.args.self.now in
     rw (rows_are c) (seen_keeps s.generators.now s.rows c.args.row.now)
 
-next : (c : goal.In_ok-number)
+next : (c : In_ok-number)
     → IsNext c.args.self.now.generators.now.letters
     (number_of c.args.self.now.generators.now c.args.self.now.rows)
     (number_of c.args.self.now.generators.now c.see.new.self) c.args.job.element c.args.job.letter
@@ -73,36 +42,110 @@ next c = let s = c.args.self.now in
     (seen_next s.generators.now s.rows c.args.job.element c.args.job.letter c.args.row.now
     c.requires.row)
 
-counts : (c : goal.In_ok-number)
-    → (position_or_len (pointwise nat_eq c.args.row.now) c.args.self.now.rows
-    ≡ length c.args.self.now.rows)
-    × (length (insert_key (pointwise nat_eq) c.args.self.now.rows c.args.row.now)
-    ≡ length c.args.self.now.rows + 1)
-counts c = new_counts c.args.self.now.rows c.args.row.now
-    (λ n e. c.in_default.not-Some n (c.find.ensures ∙ e))
+pub returns-then-number-before-clause-seen : goal.returns-then-number-before-clause-seen
+returns-then-number-before-clause-seen c =
+    again (goal.at.returns-then-number-before-clause-seen c).In_ok-number
+
+pub returns-then-number-before-clause-next : goal.returns-then-number-before-clause-next
+returns-then-number-before-clause-next c =
+    next (goal.at.returns-then-number-before-clause-next c).In_ok-number
+
+pub returns-then-number-before-clause-counted : goal.returns-then-number-before-clause-counted
+returns-then-number-before-clause-counted c =
+    let k = (goal.at.returns-then-number-before-clause-counted c).In_ok-number in
+    rw (rows_are k, number_is k) (seen_counts c.args.self.now.rows c.args.row.now)
+
+pub returns-then-number-before-clause-ready : goal.returns-then-number-before-clause-ready
+returns-then-number-before-clause-ready c =
+    let k = (goal.at.returns-then-number-before-clause-ready c).In_ok-number in
+    let s = c.args.self.now in
+    let q = c.requires in
+    let before : c.len-before.result ≡ length s.rows = c.len-before.ensures in
+    let inside : c.in_ok-number.number < length s.rows =
+    omega (arith, c.if-number-before.true, before) in
+    let known : position_or_len (pointwise nat_eq c.args.row.now) s.rows < length s.rows =
+    subst (λ (n : ℕ). n < length s.rows) (number_is k) inside in
+    ready_meets s.generators.now s.rows s.progress c.args.targets.now q.ready q.seen
+    c.args.job.element c.args.job.letter q.job.from q.job.to q.job.letter q.here c.see.new.self
+    c.in_ok-number.number (again k) (kept k) (next k) inside
+    (ap (λ (rows : List (List ℕ)). length rows) (rows_are k)
+    ∙ known_counts s.rows c.args.row.now known)
+
+-- a row that is not there has no place among the rows
+not_known : (c : Else-number-before)
+    → length c.args.self.now.rows ≤ position_or_len (pointwise nat_eq c.args.row.now)
+    c.args.self.now.rows
+not_known c =
+    let before : c.len-before.result ≡ length c.args.self.now.rows = c.len-before.ensures in
+    subst (λ (n : ℕ). length c.args.self.now.rows ≤ n) c.in_ok-number.ensures.place
+    (omega (arith, c.if-number-before.false, before))
+
+-- the rows are as they were
+out : (c : In_err-link) → c.link.new.self.rows ≡ c.args.self.now.rows
+out c =
+    let before : c.len-before.result ≡ length c.args.self.now.rows = c.len-before.ensures in
+    c.in_err-link.ensures.err
+    ∙ ap (λ (rows : List (List ℕ)). take (length rows - 1) rows) c.in_ok-number.ensures.rows
+    ∙ last_out c.args.self.now.rows c.args.row.now
+    (subst (λ (n : ℕ). length c.args.self.now.rows ≤ n) c.in_ok-number.ensures.place
+    (omega (arith, c.if-number-before.false, before)))
+
+pub returns-in_err-link-clause-seen : goal.returns-in_err-link-clause-seen
+returns-in_err-link-clause-seen c =
+    let o = out (goal.at.returns-in_err-link-clause-seen c).In_err-link in
+    rw (c.in_err-link.ensures.generators, o) c.requires.seen
+
+pub returns-in_err-link-clause-more : goal.returns-in_err-link-clause-more
+returns-in_err-link-clause-more c =
+    let o = out (goal.at.returns-in_err-link-clause-more c).In_err-link in
+    rw o (record { few = omega arith; same = λ i l. refl })
+
+pub returns-in_err-link-clause-kept : goal.returns-in_err-link-clause-kept
+returns-in_err-link-clause-kept c =
+    let o = out (goal.at.returns-in_err-link-clause-kept c).In_err-link in
+    rw (c.in_err-link.ensures.generators, o) (record { kept = λ w n o e. e })
+
+pub returns-in_err-link-clause-err : goal.returns-in_err-link-clause-err
+returns-in_err-link-clause-err c =
+    let o = out (goal.at.returns-in_err-link-clause-err c).In_err-link in
+    on_err c.from_residual-in_err-link.result (ap (λ (rows : List (List ℕ)). length rows) o)
 
 pub returns-clause-seen : goal.returns-clause-seen
-returns-clause-seen c = rw c.in_ok-link.ensures.generators (again c)
+returns-clause-seen c =
+    let k = (goal.at.returns-clause-seen c).In_ok-number in
+    rw (c.in_ok-link.ensures.generators, c.in_ok-link.ensures.rows) (again k)
 
 pub returns-clause-kept : goal.returns-clause-kept
-returns-clause-kept c = rw c.in_ok-link.ensures.generators (kept c)
+returns-clause-kept c =
+    let k = (goal.at.returns-clause-kept c).In_ok-number in
+    rw (c.in_ok-link.ensures.generators, c.in_ok-link.ensures.rows) (kept k)
 
 pub returns-clause-next : goal.returns-clause-next
-returns-clause-next c = rw c.in_ok-link.ensures.generators (next c)
+returns-clause-next c =
+    let k = (goal.at.returns-clause-next c).In_ok-number in
+    rw (c.in_ok-link.ensures.generators, c.in_ok-link.ensures.rows) (next k)
 
 pub returns-clause-counted : goal.returns-clause-counted
 returns-clause-counted c =
-    rw (rows_are c, number_is c) (seen_counts c.args.self.now.rows c.args.row.now)
+    let k = (goal.at.returns-clause-counted c).In_ok-number in
+    rw (c.in_ok-link.ensures.rows, rows_are k, number_is k)
+    (seen_counts c.args.self.now.rows c.args.row.now)
 
 pub returns-clause-ready : goal.returns-clause-ready
 returns-clause-ready c =
+    let k = (goal.at.returns-clause-ready c).In_ok-number in
     let s = c.args.self.now in
     let q = c.requires in
-    let n = counts c in
-    rw (c.in_ok-link.ensures.generators, c.in_ok-link.ensures.links)
+    let n = new_counts s.rows c.args.row.now
+    (not_known (goal.at.returns-clause-ready c).Else-number-before) in
+    rw (
+      c.in_ok-link.ensures.generators,
+      c.in_ok-link.ensures.rows,
+      c.in_ok-link.ensures.links,
+    )
     (ready_finds s.generators.now s.rows s.progress c.args.targets.now q.ready q.seen
     c.args.job.element c.args.job.letter q.job.from q.job.to q.job.letter q.here c.see.new.self
     c.in_ok-number.number
-    (next_links s.generators.now.letters c.args.targets.now s.progress.links c.args.job.element
-    c.args.job.letter) q.needed (again c) (kept c) (next c) (number_is c ∙ n.0)
-    (ap length (rows_are c) ∙ n.1) refl)
+    (with_link s.progress.links c.args.job.element c.args.job.letter c.ends_of-rest.result.0
+    c.ends_of-rest.result.1) q.needed (again k) (kept k) (next k) (number_is k ∙ n.0)
+    (ap (λ (rows : List (List ℕ)). length rows) (rows_are k) ∙ n.1) c.ends_of-rest.ensures)
