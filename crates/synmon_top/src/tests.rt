@@ -1,11 +1,11 @@
 //! Runs over devices in memory, and over the files of the system.
 
-use crate::run;
+use std::alloc::Global;
 use std::fs;
 use std::process::Abort;
 use std::test::Fail;
 use std::thread::Threads;
-use syn_outside::{MemFiles, MemSink, OpenGate, RealFiles, RealSink, put_all};
+use syn_outside::{Files, Gate, MemFiles, MemSink, OpenGate, RealFiles, RealSink, Sink, put_all};
 
 /// The language `(ab)*`.
 const AB_STAR: &str =
@@ -476,6 +476,19 @@ const FAULTS: [Row; 11] = [
     },
 ];
 
+/// The status of a run. What a run promises is not asked for where it is tested.
+pub(crate) fn status_of_run<R: Threads + Sync, F: Files, O: Sink, E: Sink, G: Gate + Sync>(
+    rt: &R,
+    alloc: Global,
+    words: &[String],
+    files: &mut F,
+    out: &mut O,
+    errs: &mut E,
+    gate: &G,
+) -> u8 {
+    crate::run(rt, alloc, words, files, out, errs, gate)
+}
+
 fn check<R: Threads + Sync + Abort + AllocGlobal>(rt: &R, row: Row) -> Result<(), Fail> {
     let alloc = rt.alloc();
     let mut words = Vec::new(alloc);
@@ -487,7 +500,7 @@ fn check<R: Threads + Sync + Abort + AllocGlobal>(rt: &R, row: Row) -> Result<()
     let mut files = MemFiles::new(alloc, "name", row.file.as_bytes(), 10, &failing_read)?;
     let mut out = MemSink::new(alloc, row.out_room, 10, &failing_write)?;
     let mut errs = MemSink::new(alloc, row.errs_room, 10, &[])?;
-    let status = run(
+    let status = status_of_run(
         rt,
         alloc,
         words.as_slice(),
@@ -546,7 +559,7 @@ fn a_run_over_real_files_reads_the_named_file(rt: HostRuntime) -> Result<(), Fai
         let mut files = RealFiles::new(&rt);
         let mut out = MemSink::new(rt.alloc(), 1_000, 1_000, &[])?;
         let mut errs = MemSink::new(rt.alloc(), WHOLE_LINE, 100, &[])?;
-        let got = run(
+        let got = status_of_run(
             &rt,
             rt.alloc(),
             words.as_slice(),
@@ -583,7 +596,7 @@ fn run_long<R: Threads + Sync + Abort + AllocGlobal>(
     let failing = [u64::from(failing_write)];
     let mut out = MemSink::new(alloc, 100_000, 65_536, &failing)?;
     let mut errs = MemSink::new(alloc, WHOLE_LINE, 100, &[])?;
-    let status = run(
+    let status = status_of_run(
         rt,
         alloc,
         words.as_slice(),

@@ -1,6 +1,6 @@
 //! Two workers at once, in the enumeration and in the table.
 
-use crate::run;
+use crate::tests::status_of_run;
 use std::hint::spin_loop;
 use std::process::Abort;
 use std::sync::atomic::{AtomicU64, Ordering};
@@ -49,7 +49,7 @@ fn table_text<R: Threads + Sync + Abort + AllocGlobal, G: Gate + Sync>(
     let mut files = MemFiles::new(alloc, "name", file.as_bytes(), 100, &[])?;
     let mut out = MemSink::new(alloc, 10_000, 10_000, &[])?;
     let mut errs = MemSink::new(alloc, 100, 100, &[])?;
-    run(
+    status_of_run(
         rt,
         alloc,
         words.as_slice(),
