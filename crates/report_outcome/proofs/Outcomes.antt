@@ -1,9 +1,8 @@
 -- From what the work on a file's bytes came to, to how a run ended.
-use Rattle.std.proofs.Common.{◌≡◌, ℕ, ◌+◌, true, false, List, [], ◌++◌, map, Option, Some, None, Result, Ok, Err, inl, inr, refl, sym, ap, ◌∙◌, subst, take, append-nil}
+use Rattle.std.proofs.Common.{◌≡◌, ℕ, ◌+◌, true, false, List, [], ◌++◌, map, Option, Some, None, Result, Ok, Err, inl, inr, refl, ap, ◌∙◌, subst, take, append-nil}
 use Rattle.std.specs.Prelude.{◌↔◌, OnErr}
 use Rattle.std.specs.Io.KnownBytes.{Appends}
 use Rattle.std.proofs.KnownBytes.{Appends-nil}
-use Rattle.generated_file.specs.Generated.{generated_text}
 use Rattle.syn_outside.specs.NamedFiles.{NamedFiles, HasPrefix}
 use Rattle.automaton_file.specs.FileText.{SourceText, IsSource, IsRefusal, language_of, most_bytes}
 use Rattle.automaton_file.proofs.SourceLaws.{prefix_spells, prefix_refused}
@@ -95,12 +94,6 @@ pub read_of_file : (c : Command) (held : Option NamedFiles) (request : Request) 
     → AreReadFor c held request bytes
 read_of_file command.Generate held request bytes file prefix = absurd file
 read_of_file other held request bytes file prefix = prefix
-
-pub read_of_size : (c : Command) (held : Option NamedFiles) (request : Request) (bytes : List ℕ)
-    → c ≡ command.Generate → bytes ≡ generated_text request.size
-    → AreReadFor c held request bytes
-read_of_size c held request bytes is same =
-    subst (λ (d : Command). AreReadFor d held request bytes) (sym is) same
 
 pub ends_refused : (bytes : List ℕ) (request : Request) (at code : ℕ) (old : Option (List ℕ))
     → IsRefusal bytes at code → EndsOn bytes request (ending.Refused at code) old old
@@ -210,15 +203,6 @@ pub ends_of_file : (held : Option NamedFiles) (words : List (List ℕ)) (request
 ends_of_file held words request bytes e old new line file prefix ends =
     ends_of_report held words request bytes e old new line
     (read_of_file request.command held request bytes file prefix) ends
-
--- and of a command about a generated file
-pub ends_of_size : (held : Option NamedFiles) (words : List (List ℕ)) (request : Request)
-    (e : Ending) (old new : Option (List ℕ)) → IsLine words request
-    → request.command ≡ command.Generate → EndsOn (generated_text request.size) request e old new
-    → Ends held words e old new
-ends_of_size held words request e old new line is ends =
-    ends_of_report held words request (generated_text request.size) e old new line
-    (read_of_size request.command held request (generated_text request.size) is refl) ends
 
 -- the answers to the sections of a request, as the report on the bytes
 pub report_of_answers : (bytes : List ℕ) (request : Request) (v : Values) (sections : List Section)

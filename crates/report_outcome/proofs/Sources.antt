@@ -40,17 +40,6 @@ few_of_source source m n sound is few (a, is_too, more) =
           is_too is) u v;
     })).both n).0 more))
 
--- where they are too many, so are those of the source
-pub many_of_source : (source : SourceText) (m : Automaton) (n : ℕ) → IsSoundSource source
-    → IsBodyAutomaton (length source.letters) source.body m
-    → HasMoreClasses m.letters (SameSubset m) n → HasMoreSubsets source n
-many_of_source source m n sound is more = (
-  m,
-  is,
-  subst (λ k. HasMoreClasses k (SameSubset m) n)
-      (body_letters (length source.letters) source.body m sound.body is) more,
-)
-
 -- what follows from a fact of a success is a fact of it
 pub on_ok_so : {A E : Type 0} {P Q : Type 0} (r : Result A E) → (P → Q) → OnOk r P → OnOk r Q
 on_ok_so (Ok x) f p = f p

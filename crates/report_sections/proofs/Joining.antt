@@ -1,6 +1,6 @@
 -- What several sections say, one after another.
 use Rattle.std.proofs.Common.{◌≡◌, ◌<◌, ◌+◌, ℕ, List, [], ◌∷◌, ◌++◌, length, take, drop, map, get_or, refl, sym, ap, ◌∙◌, subst, add-one, drop-cons}
-use Rattle.std.specs.List.{flat_map, list_any}
+use Rattle.std.specs.List.{flat_map}
 use Rattle.std.proofs.lemmas.List.{map-append}
 use Rattle.std.proofs.Math.Seq.{take-suc}
 use Rattle.report_sections.specs.declared.sections.Section.{Section}
@@ -48,11 +48,3 @@ pub texts-of : {X : Type 0} (f : X → Said) (answers : List X) (i : ℕ) (x : X
 texts-of f answers i x below is =
     ap (λ y. (f y).text ++ flat_map (λ (one : Said). one.text) (map f (drop (i + 1) answers))) is
     ∙ texts-next f answers i x below
-
--- a limit from a place on: that of the place, or one behind it
-pub limits-next : {X : Type 0} (f : X → Said) (answers : List X) (i : ℕ) (d : X)
-    → i < length answers
-    → list_any (λ (one : Said). one.limited) (map f (drop i answers))
-    ≡ list_any (λ (one : Said). one.limited)
-    (f (get_or answers i d) ∷ map f (drop (i + 1) answers))
-limits-next f answers i d below = rw (add-one, drop-cons answers i d) refl

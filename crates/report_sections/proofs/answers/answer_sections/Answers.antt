@@ -15,10 +15,10 @@ loop-section-preserved c =
     AreSections (take (c.loop-section.section-index + 1) c.args.sections.now) v.limits
     v.source.letters (language_of v.source) (map (said_of v) answers) in
     record {
-      sayable = subst (All (IsSayable v)) (sym c.in_ok-push.ensures.items)
+      sayable = subst (All (IsSayable v)) (sym {A = List Answer} c.in_ok-push.ensures.items)
           (All-push (IsSayable v) _ _ c.loop-section.invariant.sayable
           c.in_ok-answer_section.ensures.sayable);
-      said = subst P (sym c.in_ok-push.ensures.items)
+      said = subst P (sym {A = List Answer} c.in_ok-push.ensures.items)
           (sections-next (said_of v) v.limits v.source.letters (language_of v.source)
           c.args.sections.now c.loop-section.section-index _ c.loop-section.answers.items
           c.in_ok-answer_section.field-0 c.loop-section-test.true c.loop-section.invariant.said
