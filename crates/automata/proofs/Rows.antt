@@ -10,10 +10,11 @@ use Rattle.std.proofs.lemmas.List.{length-set, length-replicate, get_or-set_othe
 use Rattle.std.proofs.lemmas.List.Elements.{All-set, All-replicate}
 use Rattle.language_theory.proofs.Graphs.{row_place}
 use Rattle.language_theory.proofs.Numbers.{equal_or_not, true_or_not}
-use Rattle.language_theory.specs.Automaton.{Automaton, IsAutomaton, is_marked, has_step, steps_where}
-use Rattle.language_theory.proofs.StepLists.{listed_where, has_where, same_where, all_where}
+use Rattle.language_theory.specs.Automaton.{Automaton, IsAutomaton, IsInOrder, is_marked, has_step, steps_where}
+use Rattle.language_theory.proofs.StepLists.{listed_where, has_where, same_where, all_where, in_order_where}
 use Rattle.number_set.specs.Marks.{HasGained}
 use Rattle.automata.specs.Nfa.{most_states, IsSized, IsRow, AreRows, in_rows, of_rows, bare}
+use Rattle.syn_words.specs.Alphabet.{most_letters}
 use Rattle.automata.proofs.Steps.{step_within, leads, with_steps, none_where}
 
 pub unmarked_past : (marks : List Bool) (q : ℕ) → length marks ≤ q → is_marked marks q ≡ false
@@ -41,7 +42,7 @@ rows_automaton k initial finals rows e = record {
 -- its sizes are those of its rows of marks
 pub rows_sized : (k : ℕ) (initial finals : List Bool) (rows : List (List Bool))
     → length finals ≡ length initial → 1 ≤ length initial → length initial ≤ most_states → 1 ≤ k
-    → k ≤ 60 → IsSized (of_rows k initial finals rows)
+    → k ≤ most_letters → IsSized (of_rows k initial finals rows)
 rows_sized k initial finals rows e some few letter letters = record {
   automaton = rows_automaton k initial finals rows e;
   some_states = some;
@@ -49,6 +50,12 @@ rows_sized k initial finals rows e some few letter letters = record {
   some_letters = letter;
   few_letters = letters;
 }
+
+-- its steps stand in order
+pub rows_ordered : (k : ℕ) (initial finals : List Bool) (rows : List (List Bool))
+    → IsInOrder (of_rows k initial finals rows)
+rows_ordered k initial finals rows =
+    in_order_where (of_rows k initial finals rows) (in_rows k rows) refl
 
 -- rows without a place are those of the automaton without steps
 pub rows_bare : (n k count : ℕ)
@@ -79,7 +86,7 @@ pub record AreBare (n k : ℕ) (initial finals : List Bool) (rows : List (List B
 
 pub rows_made : (n k : ℕ) (initial finals : List Bool) (rows : List (List Bool))
     → initial ≡ replicate n false → finals ≡ replicate n false → rows ≡ replicate (n * k) []
-    → 1 ≤ n → n ≤ most_states → 1 ≤ k → k ≤ 60 → AreBare n k initial finals rows
+    → 1 ≤ n → n ≤ most_states → 1 ≤ k → k ≤ most_letters → AreBare n k initial finals rows
 rows_made n k initial finals rows e f r some few letter letters =
     let long : length initial ≡ n = ap (λ (row : List Bool). length row) e
     ∙ length-replicate {A = Bool} n false in record {

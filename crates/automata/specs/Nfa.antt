@@ -1,18 +1,19 @@
 -- The sizes that an automaton of the program may have, the changes of an automaton, and its rows.
 use Rattle.std.specs.Prelude.{◌≡◌, ℕ, ◌+◌, ◌*◌, ◌≤◌, ◌&&◌, ◌||◌, ◌==◌, ◌⊎◌, Bool, true, false, List, [], All, length, replicate, slice_set, slice_index_or}
 use Rattle.language_theory.specs.Automaton.{Automaton, IsAutomaton, is_marked, is_step, has_step, steps_where}
+use Rattle.syn_words.specs.Alphabet.{most_letters}
 
 -- the most states that an automaton of the program may have: one more than an expression has nodes
 abbrev pub most_states : ℕ
 most_states = 4001
 
--- an automaton with 1 to `most_states` states and 1 to 60 letters
+-- an automaton with 1 to `most_states` states and 1 to `most_letters` letters
 pub record IsSized (m : Automaton) : Type 0 where
   pub automaton : IsAutomaton m
   pub some_states : 1 ≤ m.states
   pub few_states : m.states ≤ most_states
   pub some_letters : 1 ≤ m.letters
-  pub few_letters : m.letters ≤ 60
+  pub few_letters : m.letters ≤ most_letters
 
 -- the automaton with no initial states, final states or steps
 abbrev pub bare : ℕ → ℕ → Automaton

@@ -2,8 +2,8 @@
 #![tactic(auto)]
 
 mod accepting;
+mod laws;
 mod nfa;
-#[cfg(test)]
-mod tests;
 
+pub use laws::the_limits;
 pub use nfa::Nfa;

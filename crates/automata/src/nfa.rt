@@ -1,8 +1,9 @@
 //! Automata with any number of initial states, and of steps from one state by one letter.
 ghost use Rattle.std.specs.Prelude.{◌≡◌, ◌+◌, ◌*◌, ◌<◌, ◌≤◌, ◌&&◌, ◌||◌, ◌==◌, ◌⊎◌, ℕ, [], length, replicate, IfOk, OnOk, OnErr};
-ghost use Rattle.language_theory.specs.Automaton.{Automaton, IsAutomaton, has_step, is_step, is_initial, is_final, is_marked};
+ghost use Rattle.language_theory.specs.Automaton.{Automaton, IsAutomaton, IsInOrder, has_step, is_step, is_initial, is_final, is_marked};
 ghost use Rattle.number_set.specs.Marks.{HasGained};
 ghost use Rattle.automata.specs.Nfa.{most_states, IsSized, IsRow, bare, with_initial, with_final, with_step, with_row};
+ghost use Rattle.syn_words.specs.Alphabet.{most_letters};
 
 use number_set::NumberSet;
 use std::alloc::Global;
@@ -43,7 +44,7 @@ impl Nfa {
         requires some_states { 1 ≤ states }
         requires few_states { states ≤ most_states }
         requires some_letters { 1 ≤ letters }
-        requires few_letters { letters ≤ 60 }
+        requires few_letters { letters ≤ most_letters }
         ensures bare { IfOk result (λ m. m ≡ bare states letters) }
         ensures sized { IfOk result (λ m. IsSized m) }
     {
@@ -72,10 +73,11 @@ impl Nfa {
         })
     }
 
-    /// The number of states.
+    /// The number of states. The steps stand in order.
     pub fn states(&self) -> u32
         ensures states { result ≡ self.now.states }
         ensures sized { IsSized self.now }
+        ensures ordered { IsInOrder self.now }
     {
         self.initial.len() as u32
     }

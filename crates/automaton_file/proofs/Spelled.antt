@@ -12,6 +12,7 @@ use Rattle.std.proofs.lemmas.Grind.{get_or-set_at}
 use Rattle.std.proofs.lemmas.List.Elements.{All-head, All-tail, All-nil, All-cons}
 use Rattle.language_theory.specs.Automaton.{Automaton, IsAutomaton, IsInOrder, is_initial, is_final, is_marked, is_step, has_step}
 use Rattle.language_theory.proofs.StepLists.{in_order_alike}
+use Rattle.language_theory.proofs.OneAutomaton.{by_same, same_row, same_fields}
 use Rattle.syn_words.specs.Alphabet.{IsAlphabet}
 use Rattle.automata.specs.Nfa.{bare, with_initial, with_final, with_step}
 use Rattle.automata.proofs.Steps.{adding_a_step, with_step_automaton, with_step_ordered, bare_ordered}
@@ -21,7 +22,6 @@ use Rattle.automaton_file.specs.FileText.{letter_of}
 use Rattle.automaton_file.specs.Reading.{with_marks, with_line, with_step_line, with_step_lines, automaton_of}
 use Rattle.automaton_file.proofs.Digits.{value_decimal}
 use Rattle.automaton_file.proofs.PartTests.{spelled_letter}
-use Rattle.automaton_file.proofs.SameAutomata.{by_same}
 
 -- what holds of some element of a list
 
@@ -394,24 +394,6 @@ read_is_spelled alphabet states initial final steps is few i f each =
     (spelled_by_rows alphabet states initial final steps xs is few i f zip)
 
 -- the lines spell one automaton
-
-same_row : (xs ys : List Bool) (n : ℕ) (P : ℕ → Type 0) → length xs ≡ n → length ys ≡ n
-    → ((p : ℕ) → p < n → IsTrue (is_marked xs p) ↔ P p)
-    → ((p : ℕ) → p < n → IsTrue (is_marked ys p) ↔ P p) → xs ≡ ys
-same_row xs ys n P hx hy tx ty =
-    same_lists xs ys (hx ∙ sym hy) (λ k d h.
-    let within : k < n = omega arith in
-    get_or_default xs k d false h ∙ by_same _ _ (tx k within) (ty k within)
-    ∙ sym (get_or_default ys k d false (omega arith)))
-
-same_fields : (m n : Automaton) → m.states ≡ n.states → m.letters ≡ n.letters
-    → m.initial ≡ n.initial → m.finals ≡ n.finals → m.steps ≡ n.steps → m ≡ n
-same_fields m n e f g h i =
-    ap (λ (x : ℕ). record m { states = x }) e
-    ∙ ap (λ (x : ℕ). record m { states = n.states; letters = x }) f
-    ∙ ap (λ (x : List Bool). record m { states = n.states; letters = n.letters; initial = x }) g
-    ∙ ap (λ (x : List Bool). record n { finals = x; steps = m.steps }) h
-    ∙ ap (λ (x : List Step). record n { steps = x }) i
 
 pub one_spelled : (alphabet : List ℕ) (states : ℕ) (initial final : List ℕ) (steps : Lines)
     (m n : Automaton) → SpellsAutomaton alphabet states initial final steps m

@@ -4,7 +4,7 @@ use Rattle.std.specs.Prelude.{◌≡◌, ◌+◌, ◌<◌, ◌≤◌, ⊤, ℕ, 
 use Rattle.std.specs.List.{list_all, list_any, position, concat}
 use Rattle.std.specs.Option.{unwrap_or, option_or}
 use Rattle.std.specs.Str.{bytes_eq}
-use Rattle.language_theory.specs.Automaton.{Automaton, IsAutomaton, Accepts, is_initial, is_final, has_step}
+use Rattle.language_theory.specs.Automaton.{Automaton, IsAutomaton, Accepts}
 use Rattle.expression_theory.specs.Expression.{Tree, Means}
 use Rattle.expression_theory.specs.Positions.{IsPositions, IsWithin}
 use Rattle.regex_reader.specs.Expressions.{tree_of}
@@ -278,14 +278,6 @@ IsFileRefusal bytes (Refused refusal) = IsRefusal bytes refusal.line refusal.cod
 IsFileRefusal bytes Memory = ⊤
 
 -- Automata of sources.
-
--- the same states and letters, initial and final states, and steps
-pub record IsSameAutomaton (m n : Automaton) : Type 0 where
-  pub states : m.states ≡ n.states
-  pub letters : m.letters ≡ n.letters
-  pub initial : (p : ℕ) → is_initial m p ≡ is_initial n p
-  pub finals : (p : ℕ) → is_final m p ≡ is_final n p
-  pub steps : (p a q : ℕ) → has_step m p a q ≡ has_step n p a q
 
 -- the automaton of a body over so many letters: the file's, or the position automaton of its
 -- expression

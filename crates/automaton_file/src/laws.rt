@@ -8,8 +8,8 @@ ghost use Rattle.automaton_file.specs.LineText.{fields};
 ghost use Rattle.automaton_file.specs.ExprText.{is_expression};
 ghost use Rattle.automaton_file.specs.Examples.{worked_text, worked_source, refused_text};
 ghost use Rattle.automaton_file.specs.Parts.{most_states, Fields, IsState, IsLetter, IsHeader, SpellsAlphabet, SpellsCount, SpellsExpression, IsStatesLine, IsStepLine};
-ghost use Rattle.automaton_file.specs.FileText.{most_bytes, are_distinct, is_alphabet, begins_with, is_state, letter_of, header_fault, alphabet_fault, body_fault, marks_fault, step_fault, SourceText, BodyText, body_language, IsSource, IsRefusal, IsSameAutomaton, IsBodyAutomaton};
-ghost use Rattle.language_theory.specs.Automaton.{Automaton, Accepts, SameSubset};
+ghost use Rattle.automaton_file.specs.FileText.{most_bytes, are_distinct, is_alphabet, begins_with, is_state, letter_of, header_fault, alphabet_fault, body_fault, marks_fault, step_fault, SourceText, BodyText, body_language, IsSource, IsRefusal, IsBodyAutomaton};
+ghost use Rattle.language_theory.specs.Automaton.{Automaton, Accepts};
 
 /// A line passes its tests exactly where it is the part that must stand there.
 pub fn each_line_is_its_part()
@@ -76,13 +76,16 @@ pub fn spelled_or_refused()
         → ¬ IsRefusal bytes at code }
 {}
 
-/// The automaton of a body is determined, but for the order and the repetition of its steps: its states, its steps,
-/// its language, and which words lead to the same set of states.
+/// A body has one automaton at most, and it accepts exactly the words of the body's language.
 pub fn one_automaton()
     ensures same { (k : ℕ) (body : BodyText) (m n : Automaton) → IsBodyAutomaton k body m
-        → IsBodyAutomaton k body n → IsSameAutomaton m n }
-    ensures subsets { (m n : Automaton) → IsSameAutomaton m n → (u v : List ℕ) → SameSubset m u v
-        ↔ SameSubset n u v }
+        → IsBodyAutomaton k body n → m ≡ n }
     ensures language { (k : ℕ) (body : BodyText) (m : Automaton) → IsBodyAutomaton k body m
         → (w : List ℕ) → Accepts m w ↔ body_language body w }
+{}
+
+/// The most bytes of a file, and the most states of an automaton that it spells.
+pub fn the_limits()
+    ensures bytes { most_bytes ≡ 1048576 }
+    ensures states { most_states ≡ 1000 }
 {}

@@ -1,9 +1,9 @@
 -- The next target in the left Cayley graph: why it is the number of the letter with the word behind
 -- it.
-use Rattle.std.proofs.Common.{◌≡◌, ℕ, zero, suc, ◌+◌, ◌*◌, ◌<◌, ◌≤◌, ◌⊎◌, inl, inr, List, [], ◌∷◌, ◌++◌, Option, Some, length, ap, sym, subst, ◌∙◌, arith, length-append}
+use Rattle.std.proofs.Common.{◌≡◌, ℕ, zero, suc, ◌+◌, ◌*◌, ◌<◌, ◌≤◌, ◌⊎◌, inl, inr, List, [], ◌∷◌, ◌++◌, Option, Some, length, take, ap, sym, subst, ◌∙◌, arith, length-append}
 use Rattle.std.specs.Prelude.{slice_index}
-use Rattle.std.proofs.lemmas.List.{get_or_append_left, get_or_push}
-use Rattle.std.proofs.Math.Nat.{mul-le-mul_right}
+use Rattle.std.proofs.lemmas.List.{get_or_append_left, get_or_push, take-take, length-take}
+use Rattle.std.proofs.Math.Nat.{mul-le-mul_right, min-le_right}
 use Rattle.language_theory.specs.Words.{Over, ◌⊏◌, word_at}
 use Rattle.language_theory.proofs.Shortlex.{shortlex_not_greater_trans}
 use Rattle.exploration.proofs.Places.{place_before_or_last}
@@ -211,3 +211,11 @@ module _ (k : ℕ) (right : List ℕ) (l : LinkLists) where
             known_fewer k h.number h.words right l m n e h.known;
         numbers = h.numbers;
       }
+
+-- what begins with a list that begins with another begins with that one
+pub kept_trans : (a b c : List ℕ) → take (length a) b ≡ a → take (length b) c ≡ b
+    → take (length a) c ≡ a
+kept_trans a b c e f =
+    let few = subst (λ (n : ℕ). n ≤ length b) (sym (length-take (length a) b) ∙ ap length e)
+    (min-le_right (length a) (length b)) in
+    sym (take-take (length a) (length b) c few) ∙ (ap (take (length a)) f ∙ e)

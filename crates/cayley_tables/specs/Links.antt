@@ -1,6 +1,6 @@
 -- The links from each listed word to the words that are left without its last and without its first
 -- letter.
-use Rattle.std.specs.Prelude.{◌≡◌, ◌<◌, ◌++◌, ℕ, List, [], ◌∷◌, length, slice_index}
+use Rattle.std.specs.Prelude.{◌≡◌, ◌<◌, ◌++◌, ℕ, List, [], ◌∷◌, length, take, slice_index}
 use Rattle.language_theory.specs.Words.{word_at}
 use Rattle.language_theory.specs.Links.{IsPrefixLink, IsSuffixLink}
 
@@ -21,6 +21,13 @@ with_link l p a s b =
       suffix = l.suffix ++ s ∷ [];
       first = l.first ++ b ∷ [];
     }
+
+-- the new lists begin with the old ones
+pub record BeginsWith (old new : LinkLists) : Type 0 where
+  pub prefix : take (length old.prefix) new.prefix ≡ old.prefix
+  pub last : take (length old.last) new.last ≡ old.last
+  pub suffix : take (length old.suffix) new.suffix ≡ old.suffix
+  pub first : take (length old.first) new.first ≡ old.first
 
 -- The links of the first m words of a list, which begins with the empty word; the links of the
 -- empty word say nothing.

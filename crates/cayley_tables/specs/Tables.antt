@@ -3,8 +3,10 @@ use Rattle.std.specs.Prelude.{◌<◌, ◌≤◌, ◌+◌, ◌*◌, ℕ, List, l
 use Rattle.language_theory.specs.Congruence.{IsCongruence}
 use Rattle.language_theory.specs.ShortlexGraph.{Graph, target, SameNode, IsShortlex}
 use Rattle.monoid_theory.specs.Products.{IsLeftGraph}
+use Rattle.cayley_tables.specs.declared.limits.TheConstants.{MOST_ELEMENTS}
 use Rattle.cayley_tables.specs.CayleyGraphs.{CayleyGraphs, IsMonoidGraph}
 use Rattle.cayley_tables.specs.Links.{LinkLists, AreLinks, spelled}
+use Rattle.syn_words.specs.Alphabet.{most_letters}
 
 pub record Tables : Type 0 where
   pub letters : ℕ
@@ -33,8 +35,8 @@ tables letters right left links =
 -- the tables of a monoid whose elements have these words
 pub record AreTables (t : Tables) (words : List (List ℕ)) : Type 0 where
   pub some : 1 ≤ t.letters
-  pub letters : t.letters ≤ 60
-  pub small : length t.links.prefix ≤ 50000
+  pub letters : t.letters ≤ most_letters
+  pub small : length t.links.prefix ≤ MOST_ELEMENTS
   pub shortlex : IsShortlex (graph_of t t.right) words
   pub congruence : IsCongruence t.letters (SameNode (graph_of t t.right))
   pub left : IsLeftGraph t.letters (SameNode (graph_of t t.right)) words (graph_of t t.left)
@@ -43,12 +45,12 @@ pub record AreTables (t : Tables) (words : List (List ℕ)) : Type 0 where
 abbrev pub right_graph : ℕ → ℕ → List ℕ → Graph
 right_graph size letters targets = record { size = size; letters = letters; targets = targets }
 
--- targets that are a right Cayley graph of at most 50,000 elements and 60 letters
+-- targets that are a right Cayley graph of at most `MOST_ELEMENTS` elements and 60 letters
 pub record AreMonoidTargets (letters : ℕ) (targets : List ℕ) : Type 0 where
   pub some : 1 ≤ letters
-  pub few : letters ≤ 60
+  pub few : letters ≤ most_letters
   pub size : ℕ
-  pub small : size ≤ 50000
+  pub small : size ≤ MOST_ELEMENTS
   pub words : List (List ℕ)
   pub monoid : IsMonoidGraph (right_graph size letters targets) words
 

@@ -6,7 +6,9 @@ ghost use Rattle.language_theory.specs.Links.{IsPrefixLink, IsSuffixLink};
 ghost use Rattle.monoid_theory.specs.Products.{IsProduct};
 ghost use Rattle.cayley_tables.specs.CayleyGraphs.{AreCayleyGraphs};
 ghost use Rattle.cayley_tables.specs.Tables.{AreTables, tables};
+ghost use Rattle.syn_words.specs.Alphabet.{most_letters};
 
+use crate::limits::MOST_ELEMENTS;
 use crate::links::Links;
 use std::alloc::Global;
 use std::marker::Model;
@@ -15,8 +17,9 @@ use syn_words::{Memory, Word};
 /// The elements of a finite monoid that letters generate, in shortlex order of their least words, with both Cayley
 /// graphs. Element 0 is that of the empty word. Its value is the record `CayleyGraphs`: the two graphs and the least
 /// words.
-#[derive(Debug, Drop)]
+#[derive(Drop)]
 pub struct Cayley {
+    alloc: Global,
     letters: u32,
     right: Vec<u32>,
     left: Vec<u32>,
@@ -40,8 +43,9 @@ impl Model for Cayley {
 impl Cayley {
     /// The elements with these parts. Condition: the targets in the right graph are those of a monoid with these words
     /// (`AreTables`): they stand at `i * letters + a` for element i and letter a, those in the left graph likewise, and
-    /// there are four links for each element.
+    /// there are four links for each element. It takes no memory; the allocator is kept for the words of elements.
     pub fn from_parts(
+        alloc: Global,
         letters: u32,
         right: Vec<u32>,
         left: Vec<u32>,
@@ -77,6 +81,7 @@ impl Cayley {
             first,
         };
         Cayley {
+            alloc,
             letters,
             right,
             left,
@@ -84,12 +89,12 @@ impl Cayley {
         }
     }
 
-    /// The number of elements, from 1 to 50,000.
+    /// The number of elements, from 1 to `MOST_ELEMENTS`.
     pub fn len(&self) -> u32
         ensures len { result ≡ length self.now.words }
         ensures size { result ≡ self.now.right.size }
         ensures some { 1 ≤ result }
-        ensures few { result ≤ 50000 }
+        ensures few { result ≤ MOST_ELEMENTS }
         ensures graphs { AreCayleyGraphs self.now }
     {
         self.links.prefix.len() as u32
@@ -99,9 +104,23 @@ impl Cayley {
     pub fn letters(&self) -> u32
         ensures letters { result ≡ self.now.right.letters }
         ensures some { 1 ≤ result }
-        ensures few { result ≤ 60 }
+        ensures few { result ≤ most_letters }
     {
         self.letters
+    }
+
+    /// The targets in the right graph: those of element 0 by each letter, then those of element 1, and so on.
+    pub fn right_targets(&self) -> &[u32]
+        ensures { result.now ≡ self.now.right.targets }
+    {
+        self.right.as_slice()
+    }
+
+    /// The targets in the left graph, in the same order.
+    pub fn left_targets(&self) -> &[u32]
+        ensures { result.now ≡ self.now.left.targets }
+    {
+        self.left.as_slice()
     }
 
     /// The element followed by a letter. Condition: both are in range.
@@ -187,14 +206,14 @@ impl Cayley {
     }
 
     /// The least word of an element. Condition: the element is in range.
-    pub fn word(&self, alloc: Global, i: u32) -> Result<Word, Memory>
+    pub fn word(&self, i: u32) -> Result<Word, Memory>
         requires { i < length self.now.words }
         ensures word { IfOk result (λ w. w ≡ word_at self.now.words i) }
         ensures over { IfOk result (λ w. Over self.now.right.letters w) }
     {
         // Its contract tells that the word of element 0 is empty.
         let _len = self.len();
-        let mut word = Word::new(alloc);
+        let mut word = Word::new(self.alloc);
         let mut rest = i;
         while rest > 0 {
             let (first, suffix) = self.suffix_link(rest);

@@ -1,5 +1,5 @@
 //! The rows of the left Cayley graph, one after another.
-ghost use Rattle.std.specs.Prelude.{◌≡◌, ◌<◌, ◌≤◌, ◌+◌, ◌*◌, length, OnOk};
+ghost use Rattle.std.specs.Prelude.{◌≡◌, ◌<◌, ◌≤◌, ◌+◌, ◌*◌, length, take, OnOk, OnErr};
 ghost use Rattle.cayley_tables.specs.LeftRows.{CanGoOn, GoesOn, left_target};
 
 use crate::links::Links;
@@ -7,7 +7,7 @@ use syn_words::Memory;
 
 /// Puts the rows of the left Cayley graph for the elements from `from` to before `to` behind those of the elements
 /// before them. Condition: the links of these elements are known, and the right row of each element whose word is no
-/// longer than one of theirs.
+/// longer than one of theirs. After `Memory` the rows that were there stand, and more may stand behind them.
 pub fn push_left_rows(
     letters: u32,
     right: &[u32],
@@ -22,6 +22,7 @@ pub fn push_left_rows(
     ensures there { OnOk result (length left.new.items ≡ to * letters) }
     ensures left { OnOk result
         (GoesOn letters right.now links.now to left.old.items left.new.items) }
+    ensures err { OnErr result (take (length left.old.items) left.new.items ≡ left.old.items) }
 {
     for element in from..to {
         push_left_row(letters, right, links, element, left)?;
@@ -42,6 +43,7 @@ fn push_left_row(
     ensures there { OnOk result (length left.new.items ≡ (element + 1) * letters) }
     ensures left { OnOk result
         (GoesOn letters right.now links.now (element + 1) left.old.items left.new.items) }
+    ensures kept { take (length left.old.items) left.new.items ≡ left.old.items }
 {
     for letter in 0..letters {
         let product = left_product(letters, right, links, left.as_slice(), element, letter);

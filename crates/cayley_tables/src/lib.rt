@@ -4,11 +4,11 @@
 mod cayley;
 pub mod laws;
 mod left_rows;
+mod limits;
 mod links;
 mod making;
-#[cfg(test)]
-mod tests;
 
 pub use cayley::Cayley;
 pub use left_rows::push_left_rows;
+pub use limits::{MOST_ELEMENTS, MOST_WORKERS, the_limits};
 pub use links::Links;

@@ -1,6 +1,6 @@
 //! The links of elements that are found one after another.
-ghost use Rattle.std.specs.Prelude.{◌≡◌, ◌<◌, [], ◌∷◌, length, slice_index, IfOk, OnOk};
-ghost use Rattle.cayley_tables.specs.Links.{with_link};
+ghost use Rattle.std.specs.Prelude.{◌≡◌, ◌<◌, [], ◌∷◌, length, slice_index, IfOk, OnOk, OnErr};
+ghost use Rattle.cayley_tables.specs.Links.{with_link, BeginsWith};
 
 use std::alloc::Global;
 use std::marker::Model;
@@ -44,9 +44,11 @@ impl Links {
         }
     }
 
-    /// Puts the links of the next element behind those that are there. After `Memory` nothing is said of the links.
+    /// Puts the links of the next element behind those that are there. After `Memory` those that were there stand, and
+    /// some lists may have one link more.
     pub fn push(&mut self, prefix: u32, last: u8, suffix: u32, first: u8) -> Result<(), Memory>
-        ensures { OnOk result (self.new ≡ with_link self.old prefix last suffix first) }
+        ensures ok { OnOk result (self.new ≡ with_link self.old prefix last suffix first) }
+        ensures err { OnErr result (BeginsWith self.old self.new) }
     {
         self.prefix.push(prefix)?;
         self.last.push(last)?;

@@ -3,6 +3,7 @@ ghost use Rattle.std.specs.Prelude.{◌≡◌, ◌<◌, ◌≤◌, ◌+◌, ◌*
 ghost use Rattle.language_theory.specs.ShortlexGraph.{target};
 ghost use Rattle.cayley_tables.specs.CayleyGraphs.{AreCayleyGraphs};
 ghost use Rattle.cayley_tables.specs.Tables.{AreMonoidTargets, IsLinking, right_graph};
+ghost use Rattle.syn_words.specs.Alphabet.{most_letters};
 
 use crate::cayley::Cayley;
 use crate::left_rows::push_left_rows;
@@ -26,7 +27,7 @@ impl Cayley {
         push_left_rows(letters, right, &links, 0, size, &mut left)?;
         let targets = Vec::from_slice(alloc, right)?;
         let (prefix, last, suffix, first) = links.into_lists();
-        Ok(Cayley::from_parts(letters, targets, left, prefix, last, suffix, first))
+        Ok(Cayley::from_parts(alloc, letters, targets, left, prefix, last, suffix, first))
     }
 }
 
@@ -55,7 +56,7 @@ fn link_row(
     requires linking { IsLinking (right_graph size letters right.now)
         (element * letters) links.old }
     requires element { element < size }
-    requires letters { letters ≤ 60 }
+    requires letters { letters ≤ most_letters }
     ensures { OnOk result
         (IsLinking (right_graph size letters right.now) ((element + 1) * letters) links.new) }
 {

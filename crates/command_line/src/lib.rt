@@ -8,8 +8,6 @@ mod options;
 mod parsing;
 mod reading;
 mod request;
-#[cfg(test)]
-mod tests;
 
 pub use commands::Command;
 pub use fault::LineFault;

@@ -251,28 +251,3 @@ fn name_all(labels: &mut Vec<u32>, nodes: &[u32], name: u32)
         labels[*node as usize] = name;
     }
 }
-
-#[cfg(test)]
-mod tests {
-    use super::*;
-
-    #[test]
-    fn names_each_component(rt: HostRuntime) {
-        // 0 and 1 lead to the ring 3, 5, 4, which is entered at 5, and 2 stands alone
-        let targets = [1, 5, 0, 5, 2, 0, 5, 5, 3, 4, 4, 4];
-        match strong_components(rt.alloc(), 6, 2, &targets) {
-            Ok(labels) => assert!(rt; labels.as_slice() == &[0, 0, 2, 3, 3, 3][..]),
-            Err(_) => assert!(rt; false),
-        }
-    }
-
-    #[test]
-    fn joins_two_graphs(rt: HostRuntime) -> Result<(), Memory> {
-        // 1 -> 2 in the first graph, 2 -> 1 in the second, and 0 -> 1, 3 -> 0
-        let both = side_by_side(rt.alloc(), 4, 1, &[1, 2, 2, 3], 1, &[0, 1, 1, 0])?;
-        assert!(rt; both.as_slice() == &[1, 0, 2, 1, 2, 1, 3, 0][..]);
-        let labels = strong_components(rt.alloc(), 4, 2, both.as_slice())?;
-        assert!(rt; labels.as_slice() == &[0, 1, 1, 3][..]);
-        Ok(())
-    }
-}

@@ -4,12 +4,4 @@ pub mod Searching
 pub mod Whole
 pub mod Interning
 pub mod KeyedStates
-pub mod Tables
-pub mod Totals
-pub mod Refining
-pub mod Rounds
-pub mod Firsts
 pub mod Listing
-pub mod Chains
-pub mod SplitLists
-pub mod ClosedSplits

@@ -27,8 +27,8 @@ impl Model for ShortlexGraph {
 }
 
 impl ShortlexGraph {
-    /// The graph of these targets.
-    pub(crate) fn new(size: u32, letters: u8, targets: Vec<u32>) -> ShortlexGraph
+    /// The graph of these targets. Condition: they are those of a graph.
+    pub fn new(size: u32, letters: u8, targets: Vec<u32>) -> ShortlexGraph
         requires { IsGraph (record { size = size; letters = letters; targets = targets.items }) }
         ensures { result ≡ record { size = size; letters = letters; targets = targets.items } }
     {

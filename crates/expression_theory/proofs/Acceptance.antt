@@ -1,8 +1,10 @@
 -- A position automaton accepts the words of the expression, and no others.
-use Rattle.std.proofs.Common.{ℕ, suc, zero, ◌+◌, ◌<◌, List, [], ◌∷◌, ◌++◌, length, refl, sym, subst, append_assoc, arith, ◌↔◌}
+use Rattle.std.proofs.Common.{◌≡◌, ◌∙◌, ℕ, suc, zero, ◌+◌, ◌<◌, List, [], ◌∷◌, ◌++◌, length, refl, sym, subst, append_assoc, arith, ◌↔◌}
 use Rattle.language_theory.specs.Automaton.{Automaton, AcceptsFrom, Accepts}
+use Rattle.language_theory.proofs.StepLists.{in_order_alike}
+use Rattle.language_theory.proofs.OneAutomaton.{by_same, same_row, same_fields}
 use Rattle.expression_theory.specs.Expression.{Tree, Means}
-use Rattle.expression_theory.specs.Positions.{positions, PositionWord, StepsTo, IsPositions}
+use Rattle.expression_theory.specs.Positions.{positions, PositionWord, StepsTo, IsFinalPosition, IsPositions}
 use Rattle.expression_theory.proofs.Exchange.{between}
 use Rattle.expression_theory.proofs.Runs.{RunsFrom, positions_accept}
 
@@ -26,6 +28,20 @@ of_runs t k m h (a ∷ w) p (q, l, e, f) =
     let b = steps_below t p q l in
     let s = h.states in
     (q, (omega arith, (h.step p a q).1 (l, e)), of_runs t k m h w q f)
+
+-- an expression has one position automaton at most
+pub one_positions : (t : Tree) (k : ℕ) (m n : Automaton) → IsPositions t k m → IsPositions t k n
+    → m ≡ n
+one_positions t k m n h i =
+    let states : m.states ≡ n.states = h.states ∙ sym i.states in
+    let letters : m.letters ≡ n.letters = h.letters ∙ sym i.letters in
+    same_fields m n states letters
+    (same_row m.initial n.initial n.states (λ p. p ≡ 0) (h.initials ∙ states) i.initials
+    (λ p _. h.initial p) (λ p _. i.initial p))
+    (same_row m.finals n.finals n.states (IsFinalPosition t) (h.finals ∙ states) i.finals
+    (λ p _. h.final p) (λ p _. i.final p))
+    (in_order_alike m n h.ordered i.ordered states letters
+    (λ p a q. by_same _ _ (h.step p a q) (i.step p a q)))
 
 -- a position automaton accepts exactly the words of its expression
 pub accepts_words : (t : Tree) (k : ℕ) (m : Automaton) → IsPositions t k m → (w : List ℕ)

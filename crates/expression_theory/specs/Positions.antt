@@ -1,7 +1,7 @@
 -- The position automaton of an expression (Glushkov). A position is an occurrence of a letter in
 -- the expression; the positions are numbered from 1, from the left.
 use Rattle.std.specs.Prelude.{◌≡◌, ℕ, zero, suc, ◌+◌, ◌-◌, ◌<◌, ◌≤◌, IsTrue, ◌↔◌, List, [], ◌∷◌, ◌++◌, length, slice_index, All}
-use Rattle.language_theory.specs.Automaton.{Automaton, is_initial, is_final, has_step}
+use Rattle.language_theory.specs.Automaton.{Automaton, is_initial, is_final, has_step, IsInOrder}
 use Rattle.expression_theory.specs.Expression.{Tree, Zero, One, Letter, Or, Cat, Star, Plus, Opt, Means, nodes, most_nodes}
 
 -- the letters at the positions, from the left
@@ -58,13 +58,16 @@ IsFinalPosition t zero = Means t []
 IsFinalPosition t (suc p) = Ends (PositionWord t) (suc p)
 
 -- m is the position automaton over k letters: state 0 is the only initial one, and state i is
--- the i-th position from the left
+-- the i-th position from the left; each state has a mark in both rows, and the steps stand in order
 pub record IsPositions (t : Tree) (k : ℕ) (m : Automaton) : Type 0 where
   pub states : m.states ≡ length (positions t) + 1
   pub letters : m.letters ≡ k
+  pub initials : length m.initial ≡ m.states
+  pub finals : length m.finals ≡ m.states
   pub initial : (p : ℕ) → IsTrue (is_initial m p) ↔ (p ≡ 0)
   pub final : (p : ℕ) → IsTrue (is_final m p) ↔ IsFinalPosition t p
   pub step : (p a q : ℕ) → IsTrue (has_step m p a q) ↔ (StepsTo t p q × (letter_of t q ≡ a))
+  pub ordered : IsInOrder m
 
 -- the expressions that have a position automaton here: not too many nodes, and letters below k
 pub record IsWithin (k : ℕ) (t : Tree) : Type 0 where

@@ -7,12 +7,12 @@ mod signs;
 
 ghost use Rattle.std.specs.Prelude.{◌≡◌, ◌↔◌, ◌⊎◌, ℕ, true, IsTrue, Some, List, [], ◌∷◌};
 ghost use Rattle.language_theory.specs.Automaton.{Automaton, Accepts};
-ghost use Rattle.expression_theory.specs.Expression.{Tree, Means, nodes};
+ghost use Rattle.expression_theory.specs.Expression.{Tree, Means, nodes, most_nodes};
 ghost use Rattle.expression_theory.specs.Positions.{Begins, Follows, Ends, IsPositions};
 ghost use Rattle.expression_theory.specs.FirstLast.{firsts, lasts, has, follows};
 ghost use Rattle.expression_theory.specs.Grammar.{Sign, Spells, Union};
 ghost use Rattle.expression_theory.specs.Frames.{tree_read};
-ghost use Rattle.expression_theory.specs.Scan.{Class, FaultKind, TooDeep, TooLarge, nodes_from, IsAccepted, IsFault, SpellsTree};
+ghost use Rattle.expression_theory.specs.Scan.{Class, FaultKind, TooDeep, TooLarge, most_open, nodes_from, IsAccepted, IsFault, SpellsTree};
 ghost use Rattle.expression_theory.specs.Polish.{polish, trees};
 
 pub use notation::Node;
@@ -22,6 +22,12 @@ pub use signs::{Class, Leaf, Quantifier, Sign};
 pub fn positions_accept_the_language()
     ensures { (t : Tree) (k : ℕ) (m : Automaton) → IsPositions t k m → (w : List ℕ) → Accepts m w
         ↔ Means t w }
+{}
+
+/// An expression has one position automaton at most over so many letters.
+pub fn one_position_automaton()
+    ensures { (t : Tree) (k : ℕ) (m n : Automaton) → IsPositions t k m → IsPositions t k n
+        → m ≡ n }
 {}
 
 /// A text spells one tree at most.
@@ -73,6 +79,12 @@ pub fn tree_computes_its_steps()
     ensures begins { (t : Tree) (p : ℕ) → IsTrue (has (firsts t) p) ↔ Begins (Means t) p }
     ensures ends { (t : Tree) (p : ℕ) → IsTrue (has (lasts t) p) ↔ Ends (Means t) p }
     ensures follows { (t : Tree) (p q : ℕ) → IsTrue (follows t p q) ↔ Follows (Means t) p q }
+{}
+
+/// The most nodes of an expression, and the most parentheses that are open at once in its text.
+pub fn the_limits()
+    ensures nodes { most_nodes ≡ 4000 }
+    ensures depth { most_open ≡ 200 }
 {}
 
 /// The Polish notation of a tree gives back the tree.

@@ -18,7 +18,8 @@ use Rattle.cayley_tables.specs.Links.{LinkLists, AreLinks}
 use Rattle.cayley_tables.specs.LeftRows.{AreLeftNumbers}
 use Rattle.cayley_tables.specs.Tables.{tables, AreTables}
 use Rattle.froidure_pin.specs.Maps.{Maps, SameMap, row_of}
-use Rattle.froidure_pin.specs.Rows.{row_at, number_of, AreSeen, AreRowsOf}
+use Rattle.image_rows.specs.Rows.{row_at}
+use Rattle.froidure_pin.specs.Rows.{number_of, AreSeen, AreRowsOf}
 use Rattle.exploration.proofs.Whole.{search_is_shortlex, node_is_number}
 use Rattle.froidure_pin.specs.declared.elements.Progress.{Progress}
 use Rattle.froidure_pin.specs.Search.{IsReady, IsComplete}

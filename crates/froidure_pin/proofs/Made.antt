@@ -9,7 +9,7 @@ use Rattle.std.proofs.Math.Nat.{mul-le-mul_right}
 use Rattle.language_theory.proofs.Graphs.{row_place}
 use Rattle.froidure_pin.specs.declared.batch.Job.{Job}
 use Rattle.froidure_pin.specs.Maps.{Maps, image}
-use Rattle.froidure_pin.specs.Rows.{row_at}
+use Rattle.image_rows.specs.Rows.{row_at}
 use borrow.Rule.Slice.PartMut.{put_mid, post_of}
 use Rattle.froidure_pin.specs.declared.batch.Batch.{Batch}
 use Rattle.froidure_pin.specs.declared.filling.Parts.{Parts}

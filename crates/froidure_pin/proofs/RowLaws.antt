@@ -23,7 +23,8 @@ use Rattle.exploration.specs.Interning.{AreReached}
 use Rattle.exploration.specs.NumberedKeys.{position_is, keys_number}
 use Rattle.exploration.proofs.Interning.{insert_keeps, insert_numbers, insert_counts, insert_reached}
 use Rattle.froidure_pin.specs.Maps.{Maps, AreMaps, SameMap, image, row_of}
-use Rattle.froidure_pin.specs.Rows.{row_at, number_of, AreSeen}
+use Rattle.image_rows.specs.Rows.{row_at}
+use Rattle.froidure_pin.specs.Rows.{number_of, AreSeen}
 use Rattle.froidure_pin.specs.Batches.{IsJob, IsNextRow, ArePointRows, CanMake}
 use Rattle.froidure_pin.specs.declared.batch.Job.{Job}
 use Rattle.froidure_pin.proofs.Shortcut.{IsInvariant}

@@ -4,7 +4,7 @@ use Rattle.froidure_pin.specs.declared.batch.Job.{Job}
 use Rattle.froidure_pin.specs.declared.batch.Batch.{Batch}
 use Rattle.froidure_pin.specs.declared.filling.Parts.{Parts}
 use Rattle.froidure_pin.specs.Maps.{Maps, AreMaps, image}
-use Rattle.froidure_pin.specs.Rows.{row_at, AreSeen}
+use Rattle.image_rows.specs.Rows.{row_at}
 
 -- where the row of a job takes a point: first as the row of the element, then by the letter
 abbrev pub job_image : Maps → List (List ℕ) → Job → ℕ → ℕ
@@ -76,12 +76,6 @@ pub record IsNextRow (m : Maps) (rows : List (List ℕ)) (i a : ℕ) (x : List �
 pub record AreMore (old new : List (List ℕ)) : Type 0 where
   pub few : length old ≤ length new
   pub same : (i : ℕ) → i < length old → row_at new i ≡ row_at old i
-
--- between 1 and 64 workers, and the rows that were seen are numbered
-pub record IsSound (workers : ℕ) (m : Maps) (rows : List (List ℕ)) : Type 0 where
-  pub some : 1 ≤ workers
-  pub few : workers ≤ 64
-  pub seen : AreSeen m rows
 
 -- where the letter a takes each point of the source
 pub record IsLetterRow (m : Maps) (source : List ℕ) (a : ℕ) (x : List ℕ) : Type 0 where

@@ -2,6 +2,8 @@
 use Rattle.std.specs.Prelude.{◌≡◌, ◌<◌, ◌≤◌, ◌≢◌, ◌+◌, ◌*◌, ◌⊎◌, ℕ, List, length, slice_index, map, All}
 use Rattle.std.specs.List.{range_with_len}
 use Rattle.language_theory.specs.Congruence.{moved, MapsAlike}
+use Rattle.froidure_pin.specs.declared.generators.TheConstants.{MOST_POINTS}
+use Rattle.syn_words.specs.Alphabet.{most_letters}
 
 -- the images of all points by letter 0, then those by letter 1, and so on
 pub record Maps : Type 0 where
@@ -16,9 +18,9 @@ image m p a = slice_index m.images (a * m.points + p)
 -- each letter takes each point to a point
 pub record AreMaps (m : Maps) : Type 0 where
   pub some : 1 ≤ m.points
-  pub points : m.points ≤ 4096
+  pub points : m.points ≤ MOST_POINTS
   pub letter : 1 ≤ m.letters
-  pub letters : m.letters ≤ 60
+  pub letters : m.letters ≤ most_letters
   pub long : length m.images ≡ m.letters * m.points
   pub within : All (λ p. p < m.points) m.images
 

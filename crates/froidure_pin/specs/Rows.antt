@@ -4,12 +4,9 @@ use Rattle.std.specs.Cmp.Lexicographic.{pointwise}
 use Rattle.language_theory.specs.Words.{word_at}
 use Rattle.language_theory.specs.Congruence.{moved}
 use Rattle.exploration.specs.States.{AreNumbered, IsSameMachine}
+use Rattle.image_rows.specs.Rows.{row_at}
 use Rattle.froidure_pin.specs.Maps.{Maps, AreMaps, SameMap, image, row_of}
 use Rattle.std.proofs.Common.{refl, sym, subst}
-
--- the row at a place of a list of rows
-abbrev pub row_at : List (List ℕ) → ℕ → List ℕ
-row_at rows i = word_at rows i
 
 -- the number of the row of a word, if it was seen
 abbrev pub number_of : Maps → List (List ℕ) → List ℕ → Option ℕ

@@ -4,6 +4,7 @@ use Rattle.std.specs.Prelude.{◌≡◌, ◌<◌, ◌≤◌, ◌+◌, ◌*◌, �
 use Rattle.language_theory.specs.Words.{Over, word_at}
 use Rattle.language_theory.specs.ShortlexGraph.{node, IsGraphOf}
 use Rattle.exploration.specs.Search.{IsSearched}
+use Rattle.cayley_tables.specs.declared.limits.TheConstants.{MOST_ELEMENTS}
 use Rattle.cayley_tables.specs.Links.{LinkLists, AreLinks, with_link}
 use Rattle.cayley_tables.specs.LeftRows.{AreLeftNumbers}
 use Rattle.froidure_pin.specs.declared.batch.Job.{Job}
@@ -89,7 +90,7 @@ next_links k targets l (suc i) a =
 pub record IsComplete (m : Maps) (rows : List (List ℕ)) (links : LinkLists)
     (left right : List ℕ) : Type 0 where
   pub maps : AreMaps m
-  pub few : length rows ≤ 50000
+  pub few : length rows ≤ MOST_ELEMENTS
   pub words : List (List ℕ)
   pub graph : IsGraphOf m.letters (SameMap m)
       (record { size = length rows; letters = m.letters; targets = right }) words

@@ -13,13 +13,13 @@ ghost use Rattle.froidure_pin.specs.Search.{IsReady, IsCurrent, IsFirst, IsCompl
 use crate::batch::Job;
 use crate::enumerating::Enumerated;
 use crate::generators::Generators;
-use crate::rows::Rows;
 use cayley_tables::{Cayley, Links, push_left_rows};
+use image_rows::Rows;
 use std::alloc::Global;
 use syn_words::Memory;
 
 /// The most rows that are made at once.
-const MOST_ROWS: usize = 4_096;
+pub(crate) const MOST_ROWS: usize = 4_096;
 
 /// What is kept of the targets found so far: the links of all elements, and the left Cayley graph of the elements with
 /// shorter words than those whose targets are being found. The latter are the elements from `from` to before `to`.
@@ -216,7 +216,7 @@ impl<'a> Elements<'a> {
         requires from { self.now.progress.from ≤ first }
         ensures jobs { IfOk result
             (λ r. All (IsJob self.now.generators.now self.now.rows) r.0.items) }
-        ensures few { IfOk result (λ r. length r.0.items ≤ 4096) }
+        ensures few { IfOk result (λ r. length r.0.items ≤ MOST_ROWS) }
     {
         let letters = self.generators.letters() as usize;
         let mut jobs = Vec::new(alloc);
@@ -254,7 +254,7 @@ impl<'a> Elements<'a> {
 
     /// Places for the rows of so many jobs.
     pub(crate) fn bare_rows(&self, alloc: Global, jobs: usize) -> Result<Vec<u32>, Memory>
-        requires { jobs ≤ 4096 }
+        requires { jobs ≤ MOST_ROWS }
         ensures { IfOk result (λ v. length v.items ≡ jobs * self.now.generators.now.points) }
     {
         let rows = vec![in alloc; 0; jobs * self.generators.points() as usize]?;
@@ -262,7 +262,7 @@ impl<'a> Elements<'a> {
     }
 
     /// All elements, once the last left rows are filled.
-    pub(crate) fn into_enumerated(self, right: Vec<u32>) -> Enumerated
+    pub(crate) fn into_enumerated(self, alloc: Global, right: Vec<u32>) -> Enumerated
         requires { IsComplete self.generators.now self.rows self.progress.links
             self.progress.left.items right.items }
         ensures elements { AreGraphsOf self.entry.generators.now.letters
@@ -273,7 +273,16 @@ impl<'a> Elements<'a> {
         let letters = self.generators.letters();
         let progress = self.progress;
         let (prefix, last, suffix, first) = progress.links.into_lists();
-        let cayley = Cayley::from_parts(letters, right, progress.left, prefix, last, suffix, first);
+        let cayley = Cayley::from_parts(
+            alloc,
+            letters,
+            right,
+            progress.left,
+            prefix,
+            last,
+            suffix,
+            first,
+        );
         Enumerated {
             cayley,
             rows: self.rows,

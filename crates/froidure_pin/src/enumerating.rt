@@ -9,12 +9,13 @@ ghost use Rattle.froidure_pin.specs.Batches.{IsBatch, IsJob, AreMade};
 ghost use Rattle.froidure_pin.specs.Search.{IsReady};
 
 use crate::batch::{Batch, Job};
+use crate::elements::MOST_ROWS;
 use crate::filling::{Parts, fill};
 use crate::generators::Generators;
 use crate::machine::FroidurePin;
-use crate::rows::Rows;
-use cayley_tables::Cayley;
+use cayley_tables::{Cayley, MOST_ELEMENTS, MOST_WORKERS};
 use exploration::{ExploreFault, States, expand};
+use image_rows::Rows;
 use std::alloc::Global;
 use std::thread::Threads;
 use syn_outside::Gate;
@@ -66,7 +67,7 @@ pub struct Enumerated {
 
 /// The elements of the monoid of maps that letters generate: the classes of words that map all points alike, by their
 /// shortlex-least words, in shortlex order. `ElementLimit` comes exactly where there are more than `max_elements`.
-/// Conditions: `max_elements <= 50000`, `1 <= workers <= 64`.
+/// Conditions: `max_elements <= MOST_ELEMENTS`, `1 <= workers <= MOST_WORKERS`.
 ///
 /// The rows of images that one word length needs are made in batches of at most 4,096, by as many workers as there are
 /// rows, and at most `workers`; the part p of each batch passes the gate with p once, before its first row.
@@ -78,9 +79,9 @@ pub fn enumerate<R: Threads + Sync, G: Gate + Sync>(
     workers: u32,
     gate: &G,
 ) -> Result<Enumerated, EnumFault>
-    requires max_elements { max_elements ≤ 50000 }
+    requires max_elements { max_elements ≤ MOST_ELEMENTS }
     requires some { 1 ≤ workers }
-    requires workers { workers ≤ 64 }
+    requires workers { workers ≤ MOST_WORKERS }
     ensures elements { IfOk result
         (λ e. AreGraphsOf generators.now.letters (SameMap generators.now) e.cayley) }
     ensures rows { IfOk result (λ e. AreRowsOf generators.now e.cayley.words e.rows) }
@@ -94,7 +95,7 @@ pub fn enumerate<R: Threads + Sync, G: Gate + Sync>(
     let right = explore_in_batches(rt, gate, workers, &mut machine, max_elements)?;
     let mut elements = machine.elements;
     elements.fill_left(right.as_slice())?;
-    Ok(elements.into_enumerated(right))
+    Ok(elements.into_enumerated(alloc, right))
 }
 
 /// The targets of all elements, found element by element; the rows that are needed are made in batches, by workers.
@@ -107,9 +108,9 @@ fn explore_in_batches<R: Threads + Sync, G: Gate + Sync>(
 ) -> Result<Vec<u32>, ExploreFault>
     requires seen { AreSeen machine.old.elements.generators.now machine.old.elements.rows }
     requires none { length machine.old.elements.rows ≡ 0 }
-    requires limit { limit ≤ 50000 }
+    requires limit { limit ≤ MOST_ELEMENTS }
     requires some { 1 ≤ workers }
-    requires workers { workers ≤ 64 }
+    requires workers { workers ≤ MOST_WORKERS }
     ensures generators { machine.new.elements.generators.now ≡ machine.old.elements.generators.now }
     ensures seen { OnOk result
         (AreSeen machine.new.elements.generators.now machine.new.elements.rows) }
@@ -153,7 +154,7 @@ fn prepare<R: Threads + Sync, G: Gate + Sync>(
     requires batch { IsBatch machine.old.elements.generators.now machine.old.elements.rows
         machine.old.batch }
     requires some { 1 ≤ workers }
-    requires few { workers ≤ 64 }
+    requires few { workers ≤ MOST_WORKERS }
     requires element { element < length machine.old.elements.rows }
     requires here { length targets.now ≡ element * machine.old.elements.generators.now.letters }
     ensures generators { machine.new.elements.generators ≡ machine.old.elements.generators }
@@ -188,7 +189,7 @@ fn make_batch<R: Threads + Sync, G: Gate + Sync>(
         machine.now.elements.progress targets.now }
     requires from { machine.now.elements.progress.from ≤ element }
     requires some { 1 ≤ workers }
-    requires few { workers ≤ 64 }
+    requires few { workers ≤ MOST_WORKERS }
     ensures { IfOk result
         (λ b. IsBatch machine.now.elements.generators.now machine.now.elements.rows b) }
 {
@@ -213,9 +214,9 @@ fn make_rows<R: Threads + Sync, G: Gate + Sync>(
     requires seen { AreSeen machine.now.elements.generators.now machine.now.elements.rows }
     requires jobs { All
         (IsJob machine.now.elements.generators.now machine.now.elements.rows) jobs.now }
-    requires most { length jobs.now ≤ 4096 }
+    requires most { length jobs.now ≤ MOST_ROWS }
     requires some { 1 ≤ workers }
-    requires few { workers ≤ 64 }
+    requires few { workers ≤ MOST_WORKERS }
     ensures { IfOk result
         (λ rows. AreMade machine.now.elements.generators.now machine.now.elements.rows jobs.now
         rows.items) }

@@ -7,7 +7,7 @@ ghost use Rattle.froidure_pin.specs.Batches.{CanMake, CanFill, AreMade, AreHalve
 
 use crate::batch::Job;
 use crate::generators::Generators;
-use crate::rows::Rows;
+use image_rows::Rows;
 use std::thread::{Threads, join_mut};
 use syn_outside::Gate;
 

@@ -1,10 +1,19 @@
 //! Maps of points, one for each letter.
 ghost use Rattle.std.specs.Prelude.{◌≡◌, ◌<◌, ◌≤◌, ◌+◌, IfOk, OnOk};
 ghost use Rattle.froidure_pin.specs.Maps.{image, AreMaps, AreOwn, IsIdentity, IsSetAt};
+ghost use Rattle.syn_words.specs.Alphabet.{most_letters};
 
 use std::alloc::Global;
 use std::marker::Model;
 use syn_words::Memory;
+
+/// The most points.
+pub const MOST_POINTS: u32 = 4_096;
+
+/// The limit as a number.
+pub fn the_limits()
+    ensures points { MOST_POINTS ≡ 4096 }
+{}
 
 /// A map of the points for each letter. Its value is the record `Maps`: the numbers of points and letters, and the
 /// images of all points by letter 0, then those by letter 1, and so on.
@@ -32,12 +41,12 @@ impl Model for Generators {
 }
 
 impl Generators {
-    /// Every letter maps every point to itself. Condition: 1 to 4,096 points and 1 to 60 letters.
+    /// Every letter maps every point to itself. Condition: 1 to `MOST_POINTS` points and 1 to 60 letters.
     pub fn new(alloc: Global, points: u32, letters: u32) -> Result<Generators, Memory>
         requires some { 1 ≤ points }
-        requires points { points ≤ 4096 }
+        requires points { points ≤ MOST_POINTS }
         requires letter { 1 ≤ letters }
-        requires letters { letters ≤ 60 }
+        requires letters { letters ≤ most_letters }
         ensures { IfOk result (λ g. IsIdentity points letters g) }
     {
         let mut images = Vec::with_capacity(alloc, points as usize * letters as usize)?;
@@ -61,7 +70,7 @@ impl Generators {
         self.images[letter as usize * self.points as usize + point as usize] = image;
     }
 
-    /// The number of points, from 1 to 4,096.
+    /// The number of points, from 1 to `MOST_POINTS`.
     pub fn points(&self) -> u32
         ensures points { result ≡ self.now.points }
         ensures maps { AreMaps self.now }
@@ -72,7 +81,7 @@ impl Generators {
     /// The number of letters, from 1 to 60.
     pub fn letters(&self) -> u32
         ensures letters { result ≡ self.now.letters }
-        ensures few { result ≤ 60 }
+        ensures few { result ≤ most_letters }
     {
         self.letters
     }

@@ -11,8 +11,8 @@ use crate::batch::{Batch, Job};
 use crate::elements::{Elements, Progress};
 use crate::filling::fill_rows;
 use crate::generators::Generators;
-use crate::rows::Rows;
 use exploration::States;
+use image_rows::Rows;
 use std::alloc::Global;
 use syn_words::Memory;
 

@@ -2,9 +2,7 @@
 #![tactic(auto)]
 
 mod laws;
-#[cfg(test)]
-mod tests;
 mod text;
 
-pub use laws::generated_files_are_accepted;
+pub use laws::{generated_files_are_accepted, the_limits};
 pub use text::generate_text;

@@ -12,3 +12,4 @@ pub mod Diagram
 pub mod EggBoxLaws
 pub mod OneDiagram
 pub mod AgreeingClasses
+pub mod CellSizes

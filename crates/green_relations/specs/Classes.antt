@@ -1,5 +1,6 @@
 -- Lists of labels that name classes as Green's relations of a finite monoid do.
 use Rattle.std.specs.Prelude.{◌≡◌, ◌<◌, ◌≤◌, ℕ, List, length, slice_index}
+use Rattle.cayley_tables.specs.declared.limits.TheConstants.{MOST_ELEMENTS}
 use Rattle.green_relations.specs.GreenClasses.{GreenClasses}
 use Rattle.green_relations.specs.EggBoxes.{Share}
 
@@ -9,10 +10,10 @@ pub record NameFirsts (n : ℕ) (labels : List ℕ) : Type 0 where
   pub below : (i : ℕ) → i < n → slice_index labels i ≤ i
   pub own : (i : ℕ) → i < n → slice_index labels (slice_index labels i) ≡ slice_index labels i
 
--- The classes of at most 50,000 elements: those of R and of L are parts of those of J, and each
+-- The classes of at most `MOST_ELEMENTS` elements: those of R and of L are parts of those of J, and each
 -- class of R meets each class of L in the same class of J.
 pub record AreClasses (g : GreenClasses) : Type 0 where
-  pub few : length g.r ≤ 50000
+  pub few : length g.r ≤ MOST_ELEMENTS
   pub r : NameFirsts (length g.r) g.r
   pub l : NameFirsts (length g.r) g.l
   pub j : NameFirsts (length g.r) g.j

@@ -1,6 +1,7 @@
 -- How the boxes of an egg-box diagram stand in flat lists.
 use Rattle.std.specs.Prelude.{◌≡◌, ◌<◌, ◌≤◌, ◌+◌, ◌*◌, ◌^◌, ℕ, List, length, slice_index, map}
 use Rattle.std.specs.List.{range_with_len}
+use Rattle.cayley_tables.specs.declared.limits.TheConstants.{MOST_ELEMENTS}
 use Rattle.green_relations.specs.GreenClasses.{GreenClasses}
 use Rattle.green_relations.specs.Classes.{AreClasses}
 use Rattle.green_relations.specs.Numbering.{IsNumbering, AreStarts, part}
@@ -41,14 +42,14 @@ laid_boxes t = map (laid_box t) (range_with_len 0 (length t.rows))
 -- Each box has a row and a column and lies among the cells, each of its cells has a member, and
 -- cells lie among the members.
 pub record IsLayout (t : Layout) : Type 0 where
-  pub few : length t.rows ≤ 50000
+  pub few : length t.rows ≤ MOST_ELEMENTS
   pub room : length t.starts ≤ 2 ^ 48
   pub filed : length t.columns ≡ length t.rows
   pub cornered : length t.corners ≡ length t.rows + 1
   pub high : (b : ℕ) → b < length t.rows
-      → (1 ≤ slice_index t.rows b) × (slice_index t.rows b ≤ 50000)
+      → (1 ≤ slice_index t.rows b) × (slice_index t.rows b ≤ MOST_ELEMENTS)
   pub wide : (b : ℕ) → b < length t.rows
-      → (1 ≤ slice_index t.columns b) × (slice_index t.columns b ≤ 50000)
+      → (1 ≤ slice_index t.columns b) × (slice_index t.columns b ≤ MOST_ELEMENTS)
   pub box : (b : ℕ) → b < length t.rows
       → slice_index t.corners b + slice_index t.rows b * slice_index t.columns b < length t.starts
   pub some : (b y x : ℕ) → b < length t.rows → y < slice_index t.rows b
@@ -80,9 +81,9 @@ pub record LieInBoxes (boxes rows columns wide corners : List ℕ) : Type 0 wher
   pub filed : length columns ≡ length boxes
   pub cornered : length corners ≡ length wide + 1
   pub box : (i : ℕ) → i < length boxes → slice_index boxes i < length wide
-  pub row : (i : ℕ) → i < length boxes → slice_index rows i ≤ 50000
-  pub column : (i : ℕ) → i < length boxes → slice_index columns i ≤ 50000
-  pub width : (b : ℕ) → b < length wide → slice_index wide b ≤ 50000
+  pub row : (i : ℕ) → i < length boxes → slice_index rows i ≤ MOST_ELEMENTS
+  pub column : (i : ℕ) → i < length boxes → slice_index columns i ≤ MOST_ELEMENTS
+  pub width : (b : ℕ) → b < length wide → slice_index wide b ≤ MOST_ELEMENTS
   pub corner : (b : ℕ) → b < length corners → slice_index corners b < 2 ^ 47
 
 -- where the cells of each box start, and the number of all cells

@@ -7,6 +7,7 @@ ghost use Rattle.green_relations.specs.Layout.{ArePlaces, AreCells, AreCorners, 
 use crate::classes::Green;
 use crate::listing::list_members;
 use crate::numbering::{Numbering, number_classes, starts_of};
+use cayley_tables::MOST_ELEMENTS;
 use std::alloc::Global;
 use std::marker::Model;
 use syn_words::Memory;
@@ -159,10 +160,10 @@ fn places_of(alloc: Global, green: &Green) -> Result<Places, Memory>
 
 /// The first cell of each box, and the number of all cells.
 fn corners_of(alloc: Global, rows: &[usize], columns: &[usize]) -> Result<Vec<usize>, Memory>
-    requires few { length rows.now ≤ 50000 }
+    requires few { length rows.now ≤ MOST_ELEMENTS }
     requires long { length columns.now ≡ length rows.now }
-    requires high { (b : ℕ) → b < length rows.now → slice_index rows.now b ≤ 50000 }
-    requires wide { (b : ℕ) → b < length rows.now → slice_index columns.now b ≤ 50000 }
+    requires high { (b : ℕ) → b < length rows.now → slice_index rows.now b ≤ MOST_ELEMENTS }
+    requires wide { (b : ℕ) → b < length rows.now → slice_index columns.now b ≤ MOST_ELEMENTS }
     ensures { IfOk result (λ corners. AreCorners rows.now columns.now corners.items) }
 {
     let mut areas = Vec::with_capacity(alloc, rows.len())?;

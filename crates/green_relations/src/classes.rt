@@ -8,14 +8,13 @@ ghost use Rattle.green_relations.specs.GreenClasses.{AreGreens};
 ghost use Rattle.green_relations.specs.Classes.{AreClasses};
 
 use crate::pairs::pair_mates;
-use crate::tables::{left_targets, right_targets};
-use cayley_tables::Cayley;
+use cayley_tables::{Cayley, MOST_ELEMENTS};
 use components::{side_by_side, strong_components};
 use std::alloc::Global;
 use std::marker::Model;
 use syn_words::Memory;
 
-/// Green's classes of a finite monoid with at most 50,000 elements. Its value is the record
+/// Green's classes of a finite monoid with at most `MOST_ELEMENTS` elements. Its value is the record
 /// `GreenClasses`: for each element the least element of its class, for R, L, J and H, and whether
 /// it is idempotent.
 #[derive(Debug, Drop)]
@@ -52,10 +51,10 @@ impl Model for Green {
 }
 
 impl Green {
-    /// The number of elements, at most 50,000.
+    /// The number of elements, at most `MOST_ELEMENTS`.
     pub fn len(&self) -> u32
         ensures len { result ≡ length self.now.r }
-        ensures few { result ≤ 50000 }
+        ensures few { result ≤ MOST_ELEMENTS }
         ensures classes { AreClasses self.now }
     {
         self.r.len() as u32
@@ -132,11 +131,11 @@ pub fn green_of(alloc: Global, cayley: &Cayley) -> Result<Green, Memory>
 {
     let size = cayley.len();
     let letters = cayley.letters();
-    let right = right_targets(alloc, cayley)?;
-    let left = left_targets(alloc, cayley)?;
-    let both = side_by_side(alloc, size, letters, &right, letters, &left)?;
-    let r = strong_components(alloc, size, letters, &right)?;
-    let l = strong_components(alloc, size, letters, &left)?;
+    let right = cayley.right_targets();
+    let left = cayley.left_targets();
+    let both = side_by_side(alloc, size, letters, right, letters, left)?;
+    let r = strong_components(alloc, size, letters, right)?;
+    let l = strong_components(alloc, size, letters, left)?;
     let j = strong_components(alloc, size, letters + letters, &both)?;
     let h = pair_mates(alloc, &r, &l)?;
     let idempotents = idempotents_of(alloc, cayley)?;

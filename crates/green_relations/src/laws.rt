@@ -6,7 +6,7 @@ ghost use Rattle.language_theory.specs.Congruence.{IsCongruence, Agree};
 ghost use Rattle.language_theory.specs.Representatives.{AreRepresentatives};
 ghost use Rattle.monoid_theory.specs.Green.{IsIdempotent};
 ghost use Rattle.green_relations.specs.GreenClasses.{GreenClasses, AreGreens};
-ghost use Rattle.green_relations.specs.EggBoxes.{AreBoxesOf, AreEggBoxes};
+ghost use Rattle.green_relations.specs.EggBoxes.{AreBoxesOf, AreEggBoxes, box_at, row_at, cell_at};
 
 use language_theory::language::Relation;
 
@@ -22,6 +22,17 @@ pub fn boxes_of_greens_classes_are_egg_boxes<R: Relation>()
 pub fn one_egg_box_diagram<R: Relation>()
     ensures { (k : ℕ) (words : List (List ℕ)) (xs ys : List (List (List (List ℕ))))
         → AreEggBoxes k R.same words xs → AreEggBoxes k R.same words ys → xs ≡ ys }
+{}
+
+/// In the egg-box diagram of a monoid all cells of a box have one number of elements.
+pub fn cells_of_a_box_have_one_size<R: Relation>()
+    ensures { (k : ℕ) (words : List (List ℕ)) (boxes : List (List (List (List ℕ))))
+        → IsCongruence k R.same → AreRepresentatives k R.same words
+        → AreEggBoxes k R.same words boxes → (b y x v u : ℕ) → b < length boxes
+        → y < length (box_at boxes b) → x < length (row_at (box_at boxes b) y)
+        → v < length (box_at boxes b) → u < length (row_at (box_at boxes b) v)
+        → length (cell_at (row_at (box_at boxes b) y) x)
+        ≡ length (cell_at (row_at (box_at boxes b) v) u) }
 {}
 
 /// The idempotents of a monoid have one list of marks.

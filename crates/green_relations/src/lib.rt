@@ -7,9 +7,6 @@ pub mod laws;
 mod listing;
 mod numbering;
 mod pairs;
-mod tables;
-#[cfg(test)]
-mod tests;
 
 pub use boxes::{Boxes, boxes_of};
 pub use classes::{Green, green_of};

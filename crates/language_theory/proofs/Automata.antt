@@ -1,10 +1,9 @@
 -- Paths of automata: words put together, lists of states, the states that a word reaches.
-use Rattle.std.proofs.Common.{◌≡◌, ℕ, zero, suc, ◌+◌, ◌<◌, ◌⊎◌, inl, inr, ◌↔◌, IsTrue, List, [], ◌∷◌, ◌++◌, length, slice_index, refl, sym, subst, arith}
-use Rattle.language_theory.specs.Automaton.{Automaton, is_final, is_initial, has_step, IsTarget, AcceptsFrom, Accepts, Leads, IsReached, SameSubset}
+use Rattle.std.proofs.Common.{◌≡◌, ℕ, zero, suc, ◌+◌, ◌<◌, ◌↔◌, IsTrue, List, [], ◌∷◌, ◌++◌, length, slice_index, refl, sym, subst, arith}
+use Rattle.language_theory.specs.Automaton.{Automaton, is_final, IsTarget, AcceptsFrom, Accepts, Leads, IsReached, SameSubset}
 use Rattle.language_theory.specs.Runs.{IsRun}
 use Rattle.language_theory.specs.Congruence.{IsRightCongruence}
 use Rattle.language_theory.specs.Nerode.{Nerode}
-use Rattle.language_theory.proofs.Numbers.{true_or_not, least_or_none}
 use Rattle.language_theory.proofs.Congruences.{both_directions, other_direction}
 
 -- ---- words put together
@@ -175,33 +174,3 @@ accepts_by_run m w = (to, λ h. let (states, r) = h in from states r)
         last = r.last;
       }),
     )
-
--- ---- tests
-
-next_or_not : (m : Automaton) (P Q : ℕ → Type 0) → ((q : ℕ) → P q ⊎ ¬ P q) → ((q : ℕ) → Q q ⊎ ¬ Q q)
-    → ((q : ℕ) × ((q < m.states) × P q) × Q q) ⊎ ¬ ((q : ℕ) × ((q < m.states) × P q) × Q q)
-next_or_not m P Q f g = elim (least_or_none (λ q. P q × Q q) both m.states) [
-  | inl (q, l, (h, i), j) ↦ inl (q, (l, h), i)
-  | inr none ↦ inr (λ x. let (q, (l, h), i) = x in none q l (h, i))
-]
-  where
-    both : (q : ℕ) → (P q × Q q) ⊎ ¬ (P q × Q q)
-    both q =
-        elim (f q) [
-          | inl h ↦ elim (g q) [ inl i ↦ inl (h, i) | inr n ↦ inr (λ x. n x.1) ]
-          | inr n ↦
-              inr (λ x. n x.0)
-        ]
-
--- acceptance can be decided
-pub accepts_from_or_not : (m : Automaton) (w : List ℕ) (p : ℕ) → AcceptsFrom m w p
-    ⊎ ¬ AcceptsFrom m w p
-accepts_from_or_not m [] p = true_or_not (is_final m p)
-accepts_from_or_not m (a ∷ w) p =
-    next_or_not m (λ q. IsTrue (has_step m p a q)) (AcceptsFrom m w)
-    (λ q. true_or_not (has_step m p a q)) (accepts_from_or_not m w)
-
-pub accepts_or_not : (m : Automaton) (w : List ℕ) → Accepts m w ⊎ ¬ Accepts m w
-accepts_or_not m w =
-    next_or_not m (λ q. IsTrue (is_initial m q)) (AcceptsFrom m w)
-    (λ q. true_or_not (is_initial m q)) (accepts_from_or_not m w)

@@ -12,5 +12,5 @@ pub mod Quotients
 pub mod Minimal
 pub mod AbStar
 pub mod Automata
-pub mod Deterministic
 pub mod StepLists
+pub mod OneAutomaton

@@ -2,7 +2,6 @@
 -- automata, paths, acceptance).
 use Rattle.std.specs.Prelude.{◌≡◌, ◌<◌, ◌&&◌, ◌==◌, ◌↔◌, ℕ, Bool, false, IsTrue, List, [], ◌∷◌, length, slice_index_or, All, if◌then◌else◌}
 use Rattle.std.specs.List.{list_any, flat_map, range_with_len}
-use Rattle.language_theory.specs.Languages.{IsOnly}
 
 -- A step is a triple: from, letter, to. Whether a state is initial or final is told by its place in
 -- a row of marks.
@@ -79,8 +78,3 @@ IsReached m w r = (p : ℕ) × IsInitial m p × Leads m p w r
 -- automaton
 abbrev pub SameSubset : Automaton → List ℕ → List ℕ → Type 0
 SameSubset m u v = (r : ℕ) → IsReached m u r ↔ IsReached m v r
-
--- exactly one initial state, and from each state exactly one step for each letter
-pub record IsCompleteDeterministic (m : Automaton) : Type 0 where
-  pub start : (p : ℕ) × IsOnly (IsInitial m) p
-  pub next : (p a : ℕ) → p < m.states → a < m.letters → (q : ℕ) × IsOnly (IsTarget m p a) q

@@ -1,15 +1,10 @@
 -- A language is a predicate on words. Its words are those over k letters for which it holds.
-use Rattle.std.specs.Prelude.{◌≡◌, ◌⊎◌, ◌↔◌, ℕ, List}
+use Rattle.std.specs.Prelude.{◌⊎◌, ◌↔◌, ℕ, List}
 use Rattle.language_theory.specs.Words.{Over, ◌⊏◌}
 
 -- exactly one of two facts holds
 abbrev pub ExactlyOne : Type 0 → Type 0 → Type 0
 ExactlyOne P Q = (P × ¬ Q) ⊎ (¬ P × Q)
-
--- x is the one value for which P holds
-pub record IsOnly {X : Type 0} (P : X → Type 0) (x : X) : Type 0 where
-  pub holds : P x
-  pub only : (y : X) → P y → y ≡ x
 
 -- two languages have the same words over k letters
 pub record HaveSameWords (k : ℕ) (L M : List ℕ → Type 0) : Type 0 where

@@ -1,10 +1,8 @@
-//! Laws of automata: paths, acceptance, deterministic automata.
+//! Laws of automata: paths, acceptance, the steps in order, the subset construction.
 
-ghost use Rattle.std.specs.Prelude.{◌≡◌, ◌<◌, ◌++◌, ◌↔◌, ◌⊎◌, ℕ, Bool, IsTrue, List};
+ghost use Rattle.std.specs.Prelude.{◌≡◌, ◌<◌, ◌++◌, ◌↔◌, ℕ, Bool, IsTrue, List};
 ghost use Rattle.std.specs.List.{list_any};
-ghost use Rattle.language_theory.specs.Words.{Over};
-ghost use Rattle.language_theory.specs.Languages.{IsOnly};
-ghost use Rattle.language_theory.specs.Automaton.{Automaton, Accepts, AcceptsFrom, Leads, IsReached, SameSubset, IsCompleteDeterministic, is_step, has_step, is_final, steps_where, IsInOrder};
+ghost use Rattle.language_theory.specs.Automaton.{Automaton, Accepts, AcceptsFrom, Leads, IsReached, SameSubset, is_step, has_step, is_final, steps_where, IsInOrder};
 ghost use Rattle.language_theory.specs.Runs.{IsRun};
 ghost use Rattle.language_theory.specs.Congruence.{IsRightCongruence};
 ghost use Rattle.language_theory.specs.Nerode.{Nerode};
@@ -38,28 +36,10 @@ pub fn steps_are_listed_in_order()
         → m.steps ≡ n.steps }
 {}
 
-/// Each word is accepted or is not.
-pub fn acceptance_is_decided()
-    ensures { (m : Automaton) (w : List ℕ) → Accepts m w ⊎ ¬ Accepts m w }
-{}
-
 /// To lead to the same set of states is a right congruence, and such words are Nerode equivalent (the subset
 /// construction).
 pub fn subsets_refine_nerode()
     ensures right { (k : ℕ) (m : Automaton) → IsRightCongruence k (SameSubset m) }
     ensures finer { (k : ℕ) (m : Automaton) (u v : List ℕ) → SameSubset m u v
         → Nerode k (Accepts m) u v }
-{}
-
-/// In a complete deterministic automaton a word leads from each state to exactly one state and reaches exactly one,
-/// and words are Nerode equivalent exactly where they reach states that accept the same words.
-pub fn deterministic_automata_have_one_path()
-    ensures leads { (m : Automaton) → IsCompleteDeterministic m → (w : List ℕ) (p : ℕ)
-        → p < m.states → Over m.letters w → (q : ℕ) × IsOnly (Leads m p w) q }
-    ensures reaches { (m : Automaton) → IsCompleteDeterministic m → (w : List ℕ) → Over m.letters w
-        → (q : ℕ) × IsOnly (IsReached m w) q }
-    ensures nerode { (m : Automaton) → IsCompleteDeterministic m → (u v : List ℕ) (p q : ℕ)
-        → Over m.letters u → Over m.letters v → IsReached m u p → IsReached m v q
-        → Nerode m.letters (Accepts m) u v ↔ ((w : List ℕ) → Over m.letters w → AcceptsFrom m w p
-        ↔ AcceptsFrom m w q) }
 {}

@@ -5,6 +5,7 @@ ghost use Rattle.language_theory.specs.Representatives.{HasMoreClasses};
 ghost use Rattle.language_theory.specs.ShortlexGraph.{IsGraphOf};
 ghost use Rattle.language_theory.specs.Nerode.{accepted};
 ghost use Rattle.level_search.specs.Levels.{Suffices, IsWide, HasManyPairs, IsSmall};
+ghost use Rattle.syn_words.specs.Alphabet.{most_letters};
 
 use crate::keys::Keys;
 use crate::pairs::Pairs;
@@ -104,7 +105,7 @@ fn explore_keys<Q: Quotient>(
     limit: u32,
 ) -> Result<ShortlexGraph, Stop>
     requires some_letters { 1 ≤ letters }
-    requires few_letters { letters ≤ 60 }
+    requires few_letters { letters ≤ most_letters }
     requires from_least { Q.least ≤ level }
     requires to_greatest { level ≤ MOST_LEVEL }
     requires limit { limit < 2 ^ 32 - 1 }

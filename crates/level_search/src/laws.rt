@@ -1,11 +1,19 @@
-//! Laws of the answers of a search through the levels.
+//! Laws of the answers of a search through the levels, and of its limits.
 ghost use Rattle.std.specs.Prelude.{◌≡◌, ◌<◌, ◌≤◌, ℕ};
 ghost use Rattle.language_theory.specs.Languages.{HaveSameWords};
 ghost use Rattle.level_search.specs.Levels.{Suffices, IsAnswer};
 
 use crate::level::Level;
-use crate::quotient::Quotient;
+use crate::quotient::{MOST_LEVEL, MOST_WIDTH, Quotient};
+use crate::searching::MOST_PAIRS;
 use language_theory::language::Language;
+
+/// The limits as numerals.
+pub fn the_limits()
+    ensures width { MOST_WIDTH ≡ 32768 }
+    ensures level { MOST_LEVEL ≡ 12 }
+    ensures pairs { MOST_PAIRS ≡ 100000 }
+{}
 
 /// A search has at most one answer.
 pub fn the_answer_is_unique<L: Language, Q: Quotient>()

@@ -8,8 +8,6 @@ mod level;
 mod pairs;
 mod quotient;
 mod searching;
-#[cfg(test)]
-mod tests;
 
 pub use level::Level;
 pub use quotient::{BeginFault, MOST_LEVEL, MOST_WIDTH, Quotient};

@@ -4,6 +4,7 @@ ghost use Rattle.std.specs.Result.{IsErrOf};
 ghost use Rattle.language_theory.specs.Congruence.{IsRightCongruence};
 ghost use Rattle.exploration.specs.States.{AreNumbered, AreKept, IsNext, IsCounted};
 ghost use Rattle.level_search.specs.Levels.{IsWide};
+ghost use Rattle.syn_words.specs.Alphabet.{most_letters};
 
 use syn_words::Memory;
 use thiserror::Error;
@@ -58,7 +59,7 @@ pub trait Quotient {
     /// After a fault no key has been seen, and the next call is `begin`.
     fn begin(&mut self, letters: u32, level: u32) -> Result<u32, BeginFault>
         requires some_letters { 1 ≤ letters }
-        requires few_letters { letters ≤ 60 }
+        requires few_letters { letters ≤ most_letters }
         requires from_least { least ≤ level }
         requires to_greatest { level ≤ MOST_LEVEL }
         ensures sound { OnOk result (is_sound self.new) }

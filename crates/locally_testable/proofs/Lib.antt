@@ -1,17 +1,5 @@
-pub mod Repeats
-pub mod Places
-pub mod Widths
-pub mod ComputedKeys
-pub mod Numbering
-pub mod LocalWords
 pub mod Witnesses
 pub mod LeastWitnesses
-pub mod FirstElements
-pub mod LocalTables
-pub mod Elements
-pub mod FirstFlaws
-pub mod LocalSizes
 pub mod OneAnswer
 pub mod Agreeing
 pub mod Telling
-pub mod Languages

@@ -3,9 +3,9 @@ use Rattle.std.proofs.Common.{◌≡◌, ℕ, Bool, true, List}
 use Rattle.language_theory.specs.Congruence.{Syntactic}
 use Rattle.language_theory.specs.Representatives.{AreRepresentatives}
 use Rattle.level_search.proofs.Answering.{none_suffices}
-use Rattle.locally_testable.specs.declared.answer.LtAnswer.{LtAnswer}
-use Rattle.locally_testable.specs.declared.answer.LtAnswer.TheVariants as answer
-use Rattle.locally_testable.specs.Keys.{width, SameKey}
+use Rattle.answers.specs.declared.factors.LtAnswer.{LtAnswer}
+use Rattle.answers.specs.declared.factors.LtAnswer.TheVariants as answer
+use Rattle.factor_keys.specs.Keys.{width, SameKey}
 use Rattle.locally_testable.specs.Answer.{IsLocalAnswer, IsSearched, Tells}
 use Rattle.locally_testable.proofs.LeastWitnesses.{witness_shows}
 

@@ -10,11 +10,13 @@ use Rattle.language_theory.proofs.Shortlex.{over_append}
 use Rattle.monoid_theory.proofs.Exponents.{over_power}
 use Rattle.language_theory.proofs.Congruences.{both_directions, other_direction, syntactic_congruence}
 use Rattle.level_search.specs.Levels.{Suffices}
-use Rattle.locally_testable.specs.Keys.{SameKey}
-use Rattle.locally_testable.specs.LocalSubmonoids.{local, IsIdempotentWord, IsLocallyIdempotentAndCommutative}
-use Rattle.locally_testable.specs.Witness.{with_one, with_two, AreToldApart, IsRepeat, IsSwap}
-use Rattle.locally_testable.proofs.LocalWords.{join}
-use Rattle.locally_testable.proofs.Repeats.{repeat_alike, swap_alike}
+use Rattle.factor_keys.specs.Keys.{SameKey}
+use Rattle.local_submonoids.specs.LocalSubmonoids.{local, IsIdempotentWord, IsLocallyIdempotentAndCommutative}
+use Rattle.factor_keys.specs.Walls.{with_one, with_two}
+use Rattle.locally_testable.specs.Witness.{AreToldApart}
+use Rattle.local_submonoids.specs.Witness.{IsRepeat, IsSwap}
+use Rattle.local_submonoids.proofs.LocalWords.{join}
+use Rattle.factor_keys.proofs.Repeats.{repeat_alike, swap_alike}
 
 -- exactly one of two facts, moved along equivalences
 one_of_both : {P Q R S : Type 0} → P ↔ R → Q ↔ S → ExactlyOne P Q → ExactlyOne R S

@@ -3,12 +3,13 @@ use Rattle.std.specs.Prelude.{◌≡◌, ◌<◌, ◌≤◌, ℕ, Bool, true, fa
 use Rattle.language_theory.specs.Congruence.{Syntactic}
 use Rattle.level_search.specs.declared.level.Level.TheVariants as level
 use Rattle.level_search.specs.Levels.{Suffices, IsAnswer}
-use Rattle.locally_testable.specs.declared.work.TheConstants.{MOST_WORK}
-use Rattle.locally_testable.specs.declared.answer.LtAnswer.{LtAnswer}
-use Rattle.locally_testable.specs.declared.answer.LtAnswer.TheVariants as answer
-use Rattle.locally_testable.specs.Keys.{width, SameKey}
-use Rattle.locally_testable.specs.LocalSubmonoids.{IsLocallyIdempotentAndCommutative, IsLocalWork}
-use Rattle.locally_testable.specs.Witness.{IsWitness, ShowsNotTestable}
+use Rattle.answers.specs.declared.factors.TheConstants.{MOST_WORK}
+use Rattle.answers.specs.declared.factors.LtAnswer.{LtAnswer}
+use Rattle.answers.specs.declared.factors.LtAnswer.TheVariants as answer
+use Rattle.factor_keys.specs.Keys.{width, SameKey}
+use Rattle.local_submonoids.specs.LocalSubmonoids.{IsLocallyIdempotentAndCommutative, IsLocalWork}
+use Rattle.local_submonoids.specs.Witness.{IsWitness}
+use Rattle.locally_testable.specs.Witness.{ShowsNotTestable}
 
 -- What the search through the levels from 1 to `last`, each of which may have `most` pairs, answers
 -- for a language L over k letters, in the words of the answer.

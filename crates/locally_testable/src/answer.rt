@@ -1,40 +1,19 @@
 //! Whether a language is locally testable.
-ghost use Rattle.std.specs.Prelude.{◌≤◌, is_some, option_map, IfSome, IfOk};
+ghost use Rattle.std.specs.Prelude.{◌≤◌, true, is_some, option_map, IfSome, IfOk};
 ghost use Rattle.language_theory.specs.Nerode.{accepted};
 ghost use Rattle.parallel_table.specs.ProductTables.{IsTableOf};
 ghost use Rattle.syntactic_monoid.specs.SyntacticMonoid.{IsSyntacticMonoid};
 ghost use Rattle.locally_testable.specs.Answer.{IsLocalAnswer, IsFound, Tells};
 
-use crate::factors::Factors;
-use crate::submonoids::first_flaw;
-use crate::witness::LtWitness;
-use crate::witnessing::witness_of;
-use crate::work::{MOST_WORK, local_work};
+use answers::{LtAnswer, MOST_WORK};
+use factor_keys::Factors;
 use level_search::{Level, MOST_LEVEL, MOST_PAIRS, search};
+use local_submonoids::{first_flaw, local_work, witness_of};
 use parallel_table::Table;
 use std::alloc::Global;
 use subset_minimal::MinDfa;
 use syn_words::Memory;
 use syntactic_monoid::Syntactic;
-
-/// Whether a language is locally testable, within limits.
-#[derive(Drop)]
-pub enum LtAnswer {
-    /// This level suffices, and no smaller one from 1 on does.
-    Yes(u32),
-    /// The language is not locally testable: its local submonoids are not all idempotent and commutative.
-    No(LtWitness),
-    /// There is no table of products.
-    TableLimit,
-    /// The local work is greater than `MOST_WORK`.
-    WorkLimit,
-    /// This level is too wide, and no smaller one suffices.
-    Wide(u32),
-    /// This level has too many pairs of a Nerode class and a key, and no smaller one suffices.
-    Pairs(u32),
-    /// No level up to this one suffices.
-    NoneTo(u32),
-}
 
 /// Whether the language of a syntactic monoid and of a minimal automaton is locally testable.
 ///
@@ -63,9 +42,33 @@ pub fn local(
         monoid.now.graphs.words (is_some table.entry) max_level max_pairs) }
     ensures tells { IfOk result (Tells dfa.now.graph.letters (accepted dfa.now)) }
 {
-    let Some(table) = table else {
-        return Ok(LtAnswer::TableLimit);
-    };
+    match table {
+        None => Ok(LtAnswer::TableLimit),
+        Some(table) => {
+            let answer = local_by_table(alloc, monoid, table, dfa, max_level, max_pairs)?;
+            Ok(answer)
+        }
+    }
+}
+
+/// The answer where there is a table of products. Conditions: as of `local`.
+fn local_by_table(
+    alloc: Global,
+    monoid: &Syntactic,
+    table: &Table,
+    dfa: &MinDfa,
+    max_level: u32,
+    max_pairs: u32,
+) -> Result<LtAnswer, Memory>
+    requires language { IsSyntacticMonoid dfa.now.graph.letters (accepted dfa.now) monoid.now }
+    requires table { IsTableOf monoid.now.graphs table.now }
+    requires from_first { 1 ≤ max_level }
+    requires to_greatest { max_level ≤ MOST_LEVEL }
+    requires pairs { max_pairs ≤ MOST_PAIRS }
+    ensures answer { IfOk result (IsLocalAnswer dfa.now.graph.letters (accepted dfa.now)
+        monoid.now.graphs.words true max_level max_pairs) }
+    ensures tells { IfOk result (Tells dfa.now.graph.letters (accepted dfa.now)) }
+{
     // Its contract tells that this is the syntactic monoid of the language that it recognises.
     let _elements = monoid.cayley();
     if local_work(alloc, monoid, table)? > MOST_WORK {

@@ -1,35 +1,19 @@
-//! Laws of the keys of prefixes, suffixes and factors, of the words that show that a language is not locally testable,
-//! and of the answer.
-ghost use Rattle.std.specs.Prelude.{◌≡◌, ◌<◌, ◌≤◌, ◌↔◌, ◌++◌, ℕ, Bool, List, length};
+//! Laws of the words that show that a language is not locally testable, and of the answer.
+ghost use Rattle.std.specs.Prelude.{◌≡◌, ◌≤◌, ◌↔◌, ◌++◌, ℕ, Bool, List};
 ghost use Rattle.language_theory.specs.Languages.{HaveSameWords};
-ghost use Rattle.language_theory.specs.Congruence.{Syntactic, IsRightCongruence};
+ghost use Rattle.language_theory.specs.Congruence.{Syntactic};
 ghost use Rattle.language_theory.specs.Representatives.{AreRepresentatives};
 ghost use Rattle.level_search.specs.Levels.{Suffices};
-ghost use Rattle.locally_testable.specs.Keys.{SameParts, SameKey};
-ghost use Rattle.locally_testable.specs.LocalSubmonoids.{local, IsLocallyIdempotentAndCommutative};
-ghost use Rattle.locally_testable.specs.Witness.{with_one, with_two, AreToldApart, IsRepeat, IsSwap, IsWitness, ShowsNotTestable};
+ghost use Rattle.factor_keys.specs.Keys.{SameKey};
+ghost use Rattle.factor_keys.specs.Walls.{with_one, with_two};
+ghost use Rattle.local_submonoids.specs.LocalSubmonoids.{local, IsLocallyIdempotentAndCommutative};
+ghost use Rattle.local_submonoids.specs.Witness.{IsRepeat, IsSwap, IsWitness};
+ghost use Rattle.locally_testable.specs.Witness.{AreToldApart, ShowsNotTestable};
 ghost use Rattle.locally_testable.specs.Answer.{IsLocalAnswer};
 
-use crate::answer::LtAnswer;
-use crate::witness::LtWitness;
+use answers::{LtAnswer, LtWitness};
+pub use factor_keys::laws::{keys_are_a_right_congruence, powers_are_walls};
 use language_theory::language::Language;
-
-/// To have the same key is a right congruence. Two words have the same key exactly where they have the same prefix, the
-/// same suffix and the same factors, whatever their lengths: a word shorter than the level is its own prefix and has no
-/// factor.
-pub fn keys_are_a_right_congruence()
-    ensures congruence { (k n : ℕ) → 1 ≤ n → IsRightCongruence k (SameKey n) }
-    ensures parts { (n : ℕ) (u v : List ℕ) → SameKey n u v ↔ SameParts n u v }
-{}
-
-/// `u x^n y x^n v` and `u x^n y x^n y x^n v` have the same key at each level up to n, and so have
-/// `u x^n y x^n z x^n v` and `u x^n z x^n y x^n v`, whatever the lengths of the words; x is not empty.
-pub fn powers_are_walls()
-    ensures repeat { (n k : ℕ) (u x y v : List ℕ) → 0 < length x → k ≤ n
-        → SameKey k (with_one n u x y v) (with_two n u x y y v) }
-    ensures swap { (n k : ℕ) (u x y z v : List ℕ) → 0 < length x → k ≤ n
-        → SameKey k (with_two n u x y z v) (with_two n u x z y v) }
-{}
 
 /// A repeat tells its two words apart for each n: they have the same key at each level from 1 to n, and exactly one of
 /// them is in the language. The first is in it exactly where `u x y x v` is. So no level suffices.
@@ -54,11 +38,14 @@ pub fn a_swap_is_told_apart_at_every_level<L: Language>()
 {}
 
 /// The witness of least words shows that the language is not locally testable: some local submonoid is not idempotent
-/// and commutative, and its two words for each n from 1 on are told apart.
+/// and commutative, and its two words for each n from 1 on are told apart. So no level suffices.
 pub fn a_witness_is_told_apart_at_every_level<L: Language>()
     ensures shows { (k : ℕ) (words : List (List ℕ)) (w : LtWitness)
         → AreRepresentatives k (Syntactic k L.has) words → IsWitness k L.has words w
         → ShowsNotTestable L.has w }
+    ensures none { (k n : ℕ) (words : List (List ℕ)) (w : LtWitness)
+        → AreRepresentatives k (Syntactic k L.has) words → IsWitness k L.has words w → 1 ≤ n
+        → ¬ Suffices k L.has (SameKey n) }
     ensures fails { (k : ℕ) (words : List (List ℕ)) (w : LtWitness)
         → AreRepresentatives k (Syntactic k L.has) words → IsWitness k L.has words w
         → ¬ IsLocallyIdempotentAndCommutative k (Syntactic k L.has) }

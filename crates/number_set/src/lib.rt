@@ -3,8 +3,6 @@
 
 mod members;
 mod number_set;
-#[cfg(test)]
-mod tests;
 
 pub use members::Members;
 pub use number_set::NumberSet;

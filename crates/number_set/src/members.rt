@@ -1,5 +1,5 @@
 //! Walks over the members of a set.
-ghost use Rattle.std.specs.Prelude.{◌≡◌, ◌+◌, IfSome};
+ghost use Rattle.std.specs.Prelude.{◌≡◌, ◌+◌, IfSome, IsNone};
 ghost use Rattle.number_set.specs.Marks.{IsNext};
 
 use crate::number_set::NumberSet;
@@ -40,11 +40,12 @@ impl<'a> Members<'a> {
         }
     }
 
-    /// The next member, if there is one more.
+    /// The next member, if there is one more. Where there is none, the walk stays where it is.
     pub fn next(&mut self) -> Option<u32>
         ensures next { IsNext self.old.marks self.old.from result }
         ensures marks { self.new.marks ≡ self.old.marks }
         ensures from { IfSome result (λ p. self.new.from ≡ p + 1) }
+        ensures end { IsNone result → self.new ≡ self.old }
     {
         let size = self.set.size();
         let mut place = self.place;

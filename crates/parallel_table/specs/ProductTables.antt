@@ -3,15 +3,16 @@ use Rattle.std.specs.Prelude.{◌≡◌, ◌<◌, ◌≤◌, ◌+◌, ◌*◌, �
 use Rattle.language_theory.specs.ShortlexGraph.{SameNode}
 use Rattle.monoid_theory.specs.Products.{IsProduct}
 use Rattle.cayley_tables.specs.CayleyGraphs.{CayleyGraphs}
+use Rattle.parallel_table.specs.declared.table.TheConstants.{MOST_SIDE}
 
 -- the number of rows and of columns, and the cells of row 0, then those of row 1, and so on
 pub record ProductTable : Type 0 where
   pub side : ℕ
   pub cells : List ℕ
 
--- a square of at most 8,000 rows
+-- a square of at most `MOST_SIDE` rows
 pub record IsSquare (t : ProductTable) : Type 0 where
-  pub few : t.side ≤ 8000
+  pub few : t.side ≤ MOST_SIDE
   pub long : length t.cells ≡ t.side * t.side
 
 -- the cell in row i and column j

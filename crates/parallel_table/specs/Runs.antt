@@ -2,7 +2,9 @@
 use Rattle.std.specs.Prelude.{◌≡◌, ◌<◌, ◌≤◌, ◌+◌, ◌-◌, ◌*◌, ◌/◌, ℕ, List, length, slice_index}
 use Rattle.language_theory.specs.ShortlexGraph.{SameNode}
 use Rattle.monoid_theory.specs.Products.{IsProduct}
+use Rattle.cayley_tables.specs.declared.limits.TheConstants.{MOST_WORKERS}
 use Rattle.cayley_tables.specs.CayleyGraphs.{CayleyGraphs, AreCayleyGraphs}
+use Rattle.parallel_table.specs.declared.table.TheConstants.{MOST_SIDE}
 use Rattle.parallel_table.specs.declared.filling.Parts.{Parts}
 
 -- where `all` parts share the rows, the first row of a part, and the number of rows behind the last
@@ -45,8 +47,8 @@ AreRowsOf c parts cells =
 -- these parts can fill n cells
 pub record CanFill (c : CayleyGraphs) (parts : Parts) (n : ℕ) : Type 0 where
   pub graphs : AreCayleyGraphs c
-  pub small : length c.words ≤ 8000
+  pub small : length c.words ≤ MOST_SIDE
   pub some : 1 ≤ parts.count
   pub within : parts.first + parts.count ≤ parts.all
-  pub few : parts.all ≤ 64
+  pub few : parts.all ≤ MOST_WORKERS
   pub long : n ≡ rows_of (length c.words) parts * length c.words

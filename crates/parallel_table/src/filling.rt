@@ -5,8 +5,8 @@ ghost use Rattle.cayley_tables.specs.CayleyGraphs.{AreCayleyGraphs};
 ghost use Rattle.parallel_table.specs.ProductTables.{IsTableOf};
 ghost use Rattle.parallel_table.specs.Runs.{first_row, rows_of, AreHalves, CanFill, IsProductRow, AreProductRows, AreRowsOf};
 
-use crate::table::Table;
-use cayley_tables::Cayley;
+use crate::table::{MOST_SIDE, Table};
+use cayley_tables::{Cayley, MOST_WORKERS};
 use std::thread::{Threads, join_mut};
 use syn_outside::Gate;
 
@@ -22,7 +22,7 @@ struct Parts {
 /// Fills a table with the products of all elements. As many parts as there are workers, but no more
 /// than rows, share it: of `parts` parts, part p has the rows from `p * side / parts` on, and
 /// passes the gate with its number once, before its first row. It takes no memory and is not
-/// refused. Conditions: the table has a row for each element, and `1 <= workers <= 64`.
+/// refused. Conditions: the table has a row for each element, and `1 <= workers <= MOST_WORKERS`.
 pub fn fill<R: Threads + Sync, G: Gate + Sync>(
     rt: &R,
     cayley: &Cayley,
@@ -32,7 +32,7 @@ pub fn fill<R: Threads + Sync, G: Gate + Sync>(
 )
     requires side { table.old.side ≡ length cayley.now.words }
     requires some { 1 ≤ workers }
-    requires few { workers ≤ 64 }
+    requires few { workers ≤ MOST_WORKERS }
     ensures { IsTableOf cayley.now table.new }
 {
     let count = workers.min(cayley.len());
@@ -105,9 +105,9 @@ fn halves(parts: Parts) -> (Parts, Parts)
 
 /// The first row of a part; behind the last part, the number of rows.
 fn first_row(side: u32, all: u32, part: u32) -> u32
-    requires side { side ≤ 8000 }
+    requires side { side ≤ MOST_SIDE }
     requires some { 1 ≤ all }
-    requires few { all ≤ 64 }
+    requires few { all ≤ MOST_WORKERS }
     requires part { part ≤ all }
     ensures row { result ≡ first_row side all part }
     ensures within { result ≤ side }
@@ -117,10 +117,10 @@ fn first_row(side: u32, all: u32, part: u32) -> u32
 
 /// The number of rows of these parts.
 fn rows_of(side: u32, parts: Parts) -> u32
-    requires side { side ≤ 8000 }
+    requires side { side ≤ MOST_SIDE }
     requires some { 1 ≤ parts.count }
     requires within { parts.first + parts.count ≤ parts.all }
-    requires few { parts.all ≤ 64 }
+    requires few { parts.all ≤ MOST_WORKERS }
     ensures rows { result ≡ rows_of side parts }
     ensures within { result ≤ side }
 {

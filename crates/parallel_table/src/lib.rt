@@ -4,8 +4,6 @@
 
 mod filling;
 mod table;
-#[cfg(test)]
-mod tests;
 
 pub use filling::fill;
-pub use table::{Table, TableFault, new_table};
+pub use table::{MOST_SIDE, Table, TableFault, new_table, the_limits};

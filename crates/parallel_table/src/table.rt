@@ -1,5 +1,5 @@
 //! The table of all products as a value of the program.
-ghost use Rattle.std.specs.Prelude.{◌≡◌, ◌<◌, ◌≤◌, length, IfOk, OnOk};
+ghost use Rattle.std.specs.Prelude.{◌≡◌, ◌<◌, ◌≤◌, length, All, IfOk, OnOk};
 ghost use Rattle.std.specs.Result.{IsErrOf};
 ghost use Rattle.parallel_table.specs.ProductTables.{IsSquare, cell};
 
@@ -7,6 +7,14 @@ use cayley_tables::Cayley;
 use std::alloc::{AllocError, Global};
 use std::marker::Model;
 use thiserror::Error;
+
+/// The most rows of a table.
+pub const MOST_SIDE: u32 = 8_000;
+
+/// The limit as a number.
+pub fn the_limits()
+    ensures side { MOST_SIDE ≡ 8000 }
+{}
 
 /// Why there is no table.
 #[derive(Clone, Copy, Debug, PartialEq, Eq, Error)]
@@ -30,7 +38,7 @@ impl From<AllocError> for TableFault {
     }
 }
 
-/// A square of at most 8,000 rows, with a cell for each two elements. Its value is the record
+/// A square of at most `MOST_SIDE` rows, with a cell for each two elements. Its value is the record
 /// `ProductTable`: the number of rows, and the cells row by row.
 #[derive(Debug, Drop)]
 pub struct Table {
@@ -49,10 +57,11 @@ impl Model for Table {
 }
 
 /// A table for the products of these elements, which is not filled yet. `TableLimit` comes exactly
-/// where there are more than `max_side` elements. Condition: `max_side <= 8000`.
+/// where there are more than `max_side` elements. Condition: `max_side <= MOST_SIDE`.
 pub fn new_table(alloc: Global, cayley: &Cayley, max_side: u32) -> Result<Table, TableFault>
-    requires { max_side ≤ 8000 }
+    requires { max_side ≤ MOST_SIDE }
     ensures side { IfOk result (λ t. t.side ≡ length cayley.now.words) }
+    ensures zeros { IfOk result (λ t. All (λ c. c ≡ 0) t.cells) }
     ensures few { OnOk result (length cayley.now.words ≤ max_side) }
     ensures many { IsErrOf result TableFault.TableLimit → max_side < length cayley.now.words }
 {
@@ -65,10 +74,10 @@ pub fn new_table(alloc: Global, cayley: &Cayley, max_side: u32) -> Result<Table,
 }
 
 impl Table {
-    /// The number of rows, which is that of the columns: at most 8,000.
+    /// The number of rows, which is that of the columns: at most `MOST_SIDE`.
     pub fn side(&self) -> u32
         ensures side { result ≡ self.now.side }
-        ensures few { result ≤ 8000 }
+        ensures few { result ≤ MOST_SIDE }
         ensures square { IsSquare self.now }
     {
         self.side

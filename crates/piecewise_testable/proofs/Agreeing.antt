@@ -8,9 +8,9 @@ use Rattle.language_theory.specs.Congruence.{Agree, Syntactic}
 use Rattle.language_theory.proofs.Shortlex.{over_append}
 use Rattle.language_theory.proofs.Congruences.{both_directions, other_direction, syntactic_agrees}
 use Rattle.monoid_theory.specs.Separation.{Separates, CanSeparate, IsSeparation}
-use Rattle.piecewise_testable.specs.declared.witness.Side.{Side}
-use Rattle.piecewise_testable.specs.declared.witness.PtWitness.{PtWitness}
-use Rattle.piecewise_testable.specs.declared.witness.CWitness.{CWitness}
+use Rattle.answers.specs.declared.subwords.Side.{Side}
+use Rattle.answers.specs.declared.subwords.PtWitness.{PtWitness}
+use Rattle.answers.specs.declared.commuting.CWitness.{CWitness}
 use Rattle.piecewise_testable.specs.Sides.{beside, IsTrivialOn, IsOther, HasOther, Moves, Leads, IsLeastLetter, IsRound}
 use Rattle.piecewise_testable.specs.Witness.{IsWitness, IsAnswerOn}
 use Rattle.piecewise_testable.specs.Commuting.{IsCommutative, Commute, HasSwap, IsCommutativeWitness, IsCommutativeAnswer}

@@ -16,11 +16,11 @@ use Rattle.subword_theory.specs.ShortSubwords.{SameSubwords}
 use Rattle.subword_theory.specs.SubwordRows.{width}
 use Rattle.syntactic_monoid.specs.SyntacticMonoid.{SyntacticMonoid, recognised, IsSyntactic, IsSyntacticMonoid}
 use Rattle.syntactic_monoid.proofs.OneMonoid.{same_words}
-use Rattle.piecewise_testable.specs.declared.witness.Side.{Side}
-use Rattle.piecewise_testable.specs.declared.witness.Side.TheVariants.{Right, Left}
-use Rattle.piecewise_testable.specs.declared.witness.PtWitness.{PtWitness}
-use Rattle.piecewise_testable.specs.declared.answer.PtAnswer.{PtAnswer}
-use Rattle.piecewise_testable.specs.declared.answer.PtAnswer.TheVariants as answer
+use Rattle.answers.specs.declared.subwords.Side.{Side}
+use Rattle.answers.specs.declared.subwords.Side.TheVariants.{Right, Left}
+use Rattle.answers.specs.declared.subwords.PtWitness.{PtWitness}
+use Rattle.answers.specs.declared.subwords.PtAnswer.{PtAnswer}
+use Rattle.answers.specs.declared.subwords.PtAnswer.TheVariants as answer
 use Rattle.piecewise_testable.specs.Sides.{IsTrivialOn}
 use Rattle.piecewise_testable.specs.Witness.{IsWitness}
 use Rattle.piecewise_testable.specs.Answers.{IsLevel, IsTrivialAnswer, IsFirstSide, IsRefusal, IsPiecewiseAnswer, IsAlwaysToldApart, answer_of}

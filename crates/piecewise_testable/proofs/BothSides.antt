@@ -8,8 +8,8 @@ use Rattle.language_theory.proofs.Congruences.{right_congruence}
 use Rattle.monoid_theory.proofs.Ideals.{r_equivalence, l_equivalence, h_of_related}
 use Rattle.monoid_theory.proofs.Agreeing.{r_agrees, l_agrees}
 use Rattle.green_relations.specs.GreenClasses.{GreenClasses, AreLeastMates, AreGreens}
-use Rattle.piecewise_testable.specs.declared.witness.Side.{Side}
-use Rattle.piecewise_testable.specs.declared.witness.Side.TheVariants.{Right, Left}
+use Rattle.answers.specs.declared.subwords.Side.{Side}
+use Rattle.answers.specs.declared.subwords.Side.TheVariants.{Right, Left}
 use Rattle.piecewise_testable.specs.Sides.{beside, IsMate}
 use Rattle.piecewise_testable.specs.Rounds.{labels_on}
 

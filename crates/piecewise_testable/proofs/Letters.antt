@@ -6,8 +6,8 @@ use Rattle.language_theory.specs.Congruence.{IsCongruence}
 use Rattle.language_theory.specs.Representatives.{AreRepresentatives}
 use Rattle.language_theory.proofs.Shortlex.{over_append}
 use Rattle.language_theory.proofs.Representatives.{related_or_not}
-use Rattle.piecewise_testable.specs.declared.witness.Side.{Side}
-use Rattle.piecewise_testable.specs.declared.witness.Side.TheVariants.{Right, Left}
+use Rattle.answers.specs.declared.subwords.Side.{Side}
+use Rattle.answers.specs.declared.subwords.Side.TheVariants.{Right, Left}
 use Rattle.piecewise_testable.specs.Sides.{beside, IsMate, HasOther, Moves, Leads}
 use Rattle.piecewise_testable.proofs.BothSides.{over_beside, beside_related}
 

@@ -12,12 +12,12 @@ use Rattle.level_search.specs.declared.level.Level.TheVariants as level
 use Rattle.level_search.proofs.Answering.{one_answer}
 use Rattle.subword_theory.specs.ShortSubwords.{SameSubwords}
 use Rattle.subword_theory.specs.SubwordRows.{width}
-use Rattle.piecewise_testable.specs.declared.witness.Side.{Side}
-use Rattle.piecewise_testable.specs.declared.witness.Side.TheVariants.{Right, Left}
-use Rattle.piecewise_testable.specs.declared.witness.PtWitness.{PtWitness}
-use Rattle.piecewise_testable.specs.declared.witness.CWitness.{CWitness}
-use Rattle.piecewise_testable.specs.declared.answer.PtAnswer.{PtAnswer}
-use Rattle.piecewise_testable.specs.declared.answer.PtAnswer.TheVariants as answer
+use Rattle.answers.specs.declared.subwords.Side.{Side}
+use Rattle.answers.specs.declared.subwords.Side.TheVariants.{Right, Left}
+use Rattle.answers.specs.declared.subwords.PtWitness.{PtWitness}
+use Rattle.answers.specs.declared.commuting.CWitness.{CWitness}
+use Rattle.answers.specs.declared.subwords.PtAnswer.{PtAnswer}
+use Rattle.answers.specs.declared.subwords.PtAnswer.TheVariants as answer
 use Rattle.piecewise_testable.specs.Sides.{beside, HasOther, Moves, Leads, IsTrivialOn, IsLeastLetter, IsRound}
 use Rattle.piecewise_testable.specs.Witness.{IsWitness, IsRTrivialAnswer}
 use Rattle.piecewise_testable.specs.Commuting.{IsCommutative, Commute, HasSwap, IsCommutativeWitness, IsCommutativeAnswer}

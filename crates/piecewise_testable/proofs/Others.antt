@@ -11,7 +11,7 @@ use Rattle.language_theory.proofs.Representatives.{listed_apart}
 use Rattle.monoid_theory.proofs.Trivial.{trivial_by_listed}
 use Rattle.green_relations.specs.GreenClasses.{AreLeastMates}
 use Rattle.green_relations.proofs.Mates.{share_related}
-use Rattle.piecewise_testable.specs.declared.witness.Side.{Side}
+use Rattle.answers.specs.declared.subwords.Side.{Side}
 use Rattle.piecewise_testable.specs.Sides.{IsMate, IsTrivialOn, IsOther, HasOther}
 use Rattle.piecewise_testable.proofs.BothSides.{mate_equivalence, mate_of_related}
 use Rattle.piecewise_testable.proofs.LeastPlaces.{least_by_place}

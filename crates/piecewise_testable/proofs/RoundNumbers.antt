@@ -4,7 +4,7 @@ use Rattle.language_theory.specs.Words.{Over, word_at}
 use Rattle.language_theory.specs.Languages.{IsLeastWord}
 use Rattle.language_theory.specs.Congruence.{IsCongruence}
 use Rattle.language_theory.specs.Representatives.{AreRepresentatives, IsPlaceOf}
-use Rattle.piecewise_testable.specs.declared.witness.Side.{Side}
+use Rattle.answers.specs.declared.subwords.Side.{Side}
 use Rattle.piecewise_testable.specs.Sides.{beside, IsMate, HasOther, Moves, Leads, IsLeastLetter}
 use Rattle.piecewise_testable.specs.declared.rounds.Round.{Round}
 use Rattle.piecewise_testable.specs.Rounds.{IsRoundOf}

@@ -7,7 +7,7 @@ use Rattle.language_theory.proofs.Congruences.{syntactic_congruence}
 use Rattle.cayley_tables.specs.CayleyGraphs.{CayleyGraphs}
 use Rattle.cayley_tables.proofs.AgreeingGraphs.{graphs_agree}
 use Rattle.syntactic_monoid.specs.SyntacticMonoid.{SyntacticMonoid, recognised, IsSyntactic}
-use Rattle.piecewise_testable.specs.declared.witness.Side.{Side}
+use Rattle.answers.specs.declared.subwords.Side.{Side}
 use Rattle.piecewise_testable.specs.declared.rounds.Round.{Round}
 use Rattle.piecewise_testable.specs.declared.parting.Parting.{Parting}
 use Rattle.piecewise_testable.specs.Sides.{beside, IsTrivialOn}

@@ -13,9 +13,9 @@ use Rattle.level_search.specs.Levels.{Suffices}
 use Rattle.subword_theory.specs.ShortSubwords.{SameSubwords}
 use Rattle.subword_theory.proofs.SameWords.{same_refl, same_append, same_context}
 use Rattle.subword_theory.proofs.Pumping.{power_behind, power_before}
-use Rattle.piecewise_testable.specs.declared.witness.Side.{Side}
-use Rattle.piecewise_testable.specs.declared.witness.Side.TheVariants.{Right, Left}
-use Rattle.piecewise_testable.specs.declared.witness.PtWitness.{PtWitness}
+use Rattle.answers.specs.declared.subwords.Side.{Side}
+use Rattle.answers.specs.declared.subwords.Side.TheVariants.{Right, Left}
+use Rattle.answers.specs.declared.subwords.PtWitness.{PtWitness}
 use Rattle.piecewise_testable.specs.Sides.{beside, IsTrivialOn, Leads}
 use Rattle.piecewise_testable.specs.Witness.{IsWitness, IsAnswerOn, pumped, first_word, second_word}
 use Rattle.piecewise_testable.specs.Answers.{IsToldApart}

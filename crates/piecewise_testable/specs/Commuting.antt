@@ -4,7 +4,7 @@ use Rattle.std.specs.Prelude.{◌<◌, ◌++◌, ◌↔◌, ℕ, IsTrue, List, [
 use Rattle.language_theory.specs.Words.{Over}
 use Rattle.language_theory.specs.Congruence.{Syntactic}
 use Rattle.monoid_theory.specs.Separation.{IsSeparation}
-use Rattle.piecewise_testable.specs.declared.witness.CWitness.{CWitness}
+use Rattle.answers.specs.declared.commuting.CWitness.{CWitness}
 use Rattle.piecewise_testable.specs.Sides.{IsLeastLetter}
 
 -- s t is t s for all elements

@@ -3,8 +3,8 @@ use Rattle.std.specs.Prelude.{◌<◌, ℕ, List, [], ◌∷◌, length}
 use Rattle.language_theory.specs.Words.{word_at}
 use Rattle.language_theory.specs.Representatives.{IsPlaceOf}
 use Rattle.green_relations.specs.GreenClasses.{GreenClasses}
-use Rattle.piecewise_testable.specs.declared.witness.Side.{Side}
-use Rattle.piecewise_testable.specs.declared.witness.Side.TheVariants.{Right, Left}
+use Rattle.answers.specs.declared.subwords.Side.{Side}
+use Rattle.answers.specs.declared.subwords.Side.TheVariants.{Right, Left}
 use Rattle.piecewise_testable.specs.declared.rounds.Round.{Round}
 use Rattle.piecewise_testable.specs.Sides.{beside, IsRound}
 

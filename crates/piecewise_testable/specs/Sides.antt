@@ -4,8 +4,8 @@ use Rattle.std.specs.Prelude.{◌<◌, ◌++◌, ℕ, List, [], ◌∷◌}
 use Rattle.language_theory.specs.Words.{Over}
 use Rattle.language_theory.specs.Languages.{IsLeastWord}
 use Rattle.monoid_theory.specs.Green.{IsR, IsL, IsTrivial}
-use Rattle.piecewise_testable.specs.declared.witness.Side.{Side}
-use Rattle.piecewise_testable.specs.declared.witness.Side.TheVariants.{Right, Left}
+use Rattle.answers.specs.declared.subwords.Side.{Side}
+use Rattle.answers.specs.declared.subwords.Side.TheVariants.{Right, Left}
 
 -- the word s with the word x behind it, or before it
 abbrev pub beside : Side → List ℕ → List ℕ → List ℕ

@@ -6,6 +6,7 @@ use Rattle.exploration.specs.States.{AreNumbered}
 use Rattle.level_search.specs.Levels.{IsWide}
 use Rattle.subword_theory.specs.ShortSubwords.{SameSubwords}
 use Rattle.subword_theory.specs.SubwordRows.{width, row_of}
+use Rattle.syn_words.specs.Alphabet.{most_letters}
 
 -- the number of letters, the level, and the rows that were seen, in the order in which they were
 -- seen
@@ -25,7 +26,7 @@ row_at s n = slice_index_or s.rows n []
 -- a level was begun that is not too wide, and the rows that were seen are numbered one to one
 pub record AreSubwordKeys (s : SubwordKeys) : Type 0 where
   pub some_letters : 1 ≤ s.letters
-  pub few_letters : s.letters ≤ 60
+  pub few_letters : s.letters ≤ most_letters
   pub narrow : ¬ IsWide (width s.letters s.level)
   pub numbered : AreNumbered s.letters (SameSubwords s.level) (number_of s) (length s.rows)
 

@@ -6,9 +6,9 @@ use Rattle.language_theory.specs.Languages.{ExactlyOne}
 use Rattle.language_theory.specs.Congruence.{Syntactic}
 use Rattle.monoid_theory.specs.Separation.{IsSeparation}
 use Rattle.subword_theory.specs.ShortSubwords.{SameSubwords}
-use Rattle.piecewise_testable.specs.declared.witness.Side.{Side}
-use Rattle.piecewise_testable.specs.declared.witness.Side.TheVariants.{Right}
-use Rattle.piecewise_testable.specs.declared.witness.PtWitness.{PtWitness}
+use Rattle.answers.specs.declared.subwords.Side.{Side}
+use Rattle.answers.specs.declared.subwords.Side.TheVariants.{Right}
+use Rattle.answers.specs.declared.subwords.PtWitness.{PtWitness}
 use Rattle.piecewise_testable.specs.Sides.{beside, IsTrivialOn, IsRound}
 
 -- the least words that go round on a side, the least context that separates s from s with the

@@ -1,25 +1,9 @@
-//! What is answered of a language's short subwords.
+//! What a search through the levels of short subwords answers.
 ghost use Rattle.std.specs.Prelude.{◌≡◌};
 ghost use Rattle.piecewise_testable.specs.Answers.{answer_of};
 
-use crate::witness::PtWitness;
+use answers::PtAnswer;
 use level_search::Level;
-
-/// Whether a language is piecewise testable: whether words with the same short subwords are both words of the language
-/// or both not.
-#[derive(Drop)]
-pub enum PtAnswer {
-    /// Subwords of at most this length suffice, and those of no smaller length do.
-    Yes(u32),
-    /// The monoid is not J-trivial, and no length suffices.
-    No(PtWitness),
-    /// There are too many words of at most this length.
-    Wide(u32),
-    /// There are too many pairs of a Nerode class and a set of subwords of at most this length.
-    Pairs(u32),
-    /// No length up to this one suffices.
-    NoneTo(u32),
-}
 
 /// The answer of a search through the levels, as an answer.
 pub(crate) fn level_answer(level: Level) -> PtAnswer

@@ -6,7 +6,7 @@ ghost use Rattle.piecewise_testable.specs.Sides.{IsLeastLetter};
 ghost use Rattle.piecewise_testable.specs.Commuting.{Commute, HasSwap, IsCommutativeAnswer};
 
 use crate::parting::part;
-use crate::witness::CWitness;
+use answers::CWitness;
 use cayley_tables::Cayley;
 use std::alloc::Global;
 use syn_words::Memory;

@@ -6,10 +6,10 @@ ghost use Rattle.green_relations.specs.GreenClasses.{AreGreens};
 ghost use Rattle.syntactic_monoid.specs.SyntacticMonoid.{recognised};
 ghost use Rattle.piecewise_testable.specs.Answers.{IsPiecewiseAnswer, IsAlwaysToldApart};
 
-use crate::answer::{PtAnswer, level_answer};
+use crate::answer::level_answer;
 use crate::subwords::Subwords;
 use crate::trivial::witness_on;
-use crate::witness::Side;
+use answers::{PtAnswer, Side};
 use green_relations::Green;
 use level_search::{MOST_LEVEL, MOST_PAIRS, search};
 use std::alloc::Global;

@@ -12,8 +12,7 @@ ghost use Rattle.piecewise_testable.specs.Witness.{IsWitness, IsRTrivialAnswer};
 ghost use Rattle.piecewise_testable.specs.Commuting.{IsCommutative, Commute, IsCommutativeWitness, IsCommutativeAnswer};
 ghost use Rattle.piecewise_testable.specs.Answers.{IsPiecewiseAnswer, IsToldApart};
 
-use crate::answer::PtAnswer;
-use crate::witness::{CWitness, PtWitness};
+use answers::{CWitness, PtAnswer, PtWitness};
 use language_theory::language::{Language, Relation};
 
 /// For each n the two words of a witness have the same subwords of length at most n, and exactly one of them is in the

@@ -10,14 +10,10 @@ mod rounds;
 mod rows;
 mod sides;
 mod subwords;
-#[cfg(test)]
-mod tests;
 mod trivial;
-mod witness;
 
-pub use answer::PtAnswer;
+pub use answers::{CWitness, PtAnswer, PtWitness, Side};
 pub use commuting::commutative;
 pub use deciding::piecewise;
 pub use subwords::Subwords;
 pub use trivial::r_trivial;
-pub use witness::{CWitness, PtWitness, Side};

@@ -25,9 +25,9 @@ pub(crate) fn part(alloc: Global, monoid: &Syntactic, i: u32, j: u32) -> Result<
         (word_at monoid.now.graphs.words i) (word_at monoid.now.graphs.words j) p) }
 {
     let cayley = monoid.cayley();
-    let s = cayley.word(alloc, i)?;
-    let t = cayley.word(alloc, j)?;
-    let Some(pair) = monoid.separate(alloc, &s, &t)? else {
+    let s = cayley.word(i)?;
+    let t = cayley.word(j)?;
+    let Some(pair) = monoid.separate(&s, &t)? else {
         unreachable!()
     };
     let first_in = is_in_context(monoid, &pair.u, i, &pair.v);

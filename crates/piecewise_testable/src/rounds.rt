@@ -8,7 +8,7 @@ ghost use Rattle.piecewise_testable.specs.Sides.{IsTrivialOn, HasOther, Moves, L
 ghost use Rattle.piecewise_testable.specs.Rounds.{IsRoundOf};
 
 use crate::sides::{class_on, with_element, with_letter};
-use crate::witness::Side;
+use answers::Side;
 use cayley_tables::Cayley;
 use green_relations::Green;
 

@@ -1,6 +1,7 @@
 //! Rows of marks for the short subwords of words.
 ghost use Rattle.std.specs.Prelude.{◌≡◌, ◌<◌, ◌≤◌, false, true, length, replicate, slice_set, IfOk};
 ghost use Rattle.subword_theory.specs.SubwordRows.{next_row};
+ghost use Rattle.syn_words.specs.Alphabet.{most_letters};
 
 use level_search::MOST_WIDTH;
 use number_set::NumberSet;
@@ -24,7 +25,7 @@ pub(crate) fn first_row(alloc: Global, width: u32) -> Result<NumberSet, Memory>
 /// beyond the row.
 pub(crate) fn next_row(row: &NumberSet, letters: u32, letter: u8) -> Result<NumberSet, Memory>
     requires narrow { length row.now ≤ MOST_WIDTH }
-    requires few_letters { letters ≤ 60 }
+    requires few_letters { letters ≤ most_letters }
     requires letter { letter < letters }
     ensures { IfOk result (λ next. next ≡ next_row letters letter row.now) }
 {

@@ -6,7 +6,7 @@ ghost use Rattle.language_theory.specs.Representatives.{IsPlaceOf};
 ghost use Rattle.piecewise_testable.specs.Sides.{beside};
 ghost use Rattle.piecewise_testable.specs.Rounds.{labels_on};
 
-use crate::witness::Side;
+use answers::Side;
 use cayley_tables::Cayley;
 use green_relations::Green;
 

@@ -9,6 +9,7 @@ ghost use Rattle.subword_theory.specs.ShortSubwords.{SameSubwords};
 ghost use Rattle.subword_theory.specs.SubwordRows.{width, next_row};
 ghost use Rattle.subword_theory.proofs.SameWords.{same_right_congruence};
 ghost use Rattle.piecewise_testable.specs.SubwordKeys.{SubwordKeys, AreSubwordKeys, number_of, row_at, subwords_numbered, IsWidthWithin};
+ghost use Rattle.syn_words.specs.Alphabet.{most_letters};
 
 use crate::rows::{first_row, next_row};
 use indexmap::IndexSet;
@@ -146,7 +147,7 @@ impl Quotient for Subwords {
 /// letters.
 fn width_within(letters: u32, level: u32) -> Option<u32>
     requires some_letters { 1 ≤ letters }
-    requires few_letters { letters ≤ 60 }
+    requires few_letters { letters ≤ most_letters }
     ensures { IsWidthWithin letters level result }
 {
     let mut width = 1;

@@ -8,7 +8,7 @@ ghost use Rattle.piecewise_testable.specs.Answers.{IsToldApart};
 
 use crate::parting::part;
 use crate::rounds::first_round;
-use crate::witness::{PtWitness, Side};
+use answers::{PtWitness, Side};
 use green_relations::Green;
 use std::alloc::Global;
 use syn_words::Memory;
@@ -50,8 +50,8 @@ pub(crate) fn witness_on(
     let Some(round) = first_round(side, cayley, green) else {
         return Ok(None);
     };
-    let s = cayley.word(alloc, round.element)?;
-    let y = cayley.word(alloc, round.back)?;
+    let s = cayley.word(round.element)?;
+    let y = cayley.word(round.back)?;
     let parting = part(alloc, monoid, round.element, round.moved)?;
     Ok(Some(PtWitness {
         side,

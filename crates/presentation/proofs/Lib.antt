@@ -1,4 +1,3 @@
 pub mod LeftSides
 pub mod RuleLists
 pub mod Reduced
-pub mod Examples

@@ -5,8 +5,6 @@
 mod listing;
 mod rewriting;
 mod rules;
-#[cfg(test)]
-mod tests;
 
 pub use listing::rules_of;
 pub use rewriting::rewrite;

@@ -5,6 +5,7 @@ ghost use Rattle.language_theory.specs.ShortlexGraph.{target, SameNode};
 ghost use Rattle.monoid_theory.specs.Presentation.{IsRule, AreRules};
 ghost use Rattle.cayley_tables.specs.CayleyGraphs.{AreCayleyGraphs};
 ghost use Rattle.presentation.specs.RuleLists.{AreRulesBefore};
+ghost use Rattle.syn_words.specs.Alphabet.{most_letters};
 
 use crate::rules::Rules;
 use cayley_tables::Cayley;
@@ -33,7 +34,7 @@ fn push_rules_of(
     rules: &mut Rules,
 ) -> Result<(), Memory>
     requires letters { letters ≡ cayley.now.right.letters }
-    requires few { letters ≤ 60 }
+    requires few { letters ≤ most_letters }
     requires element { element < length cayley.now.words }
     requires small { length cayley.now.words * letters < 2 ^ 32 }
     requires rules { AreRulesBefore cayley.now element 0 rules.old }
@@ -63,7 +64,7 @@ fn push_rule(
     if !is_left_side(cayley, element, letter) {
         return Ok(());
     }
-    let mut left = cayley.word(alloc, element)?;
+    let mut left = cayley.word(element)?;
     left.push(letter)?;
     rules.push(left, cayley.right(element, letter))?;
     Ok(())

@@ -7,13 +7,12 @@ ghost use Rattle.monoid_theory.specs.Presentation.{AreRules, Rewrites};
 
 use crate::rules::Rules;
 use cayley_tables::Cayley;
-use std::alloc::Global;
 use syn_words::{Memory, Word};
 
 /// The reduced word that the rules of a monoid lead a word to: finitely many replacements lead
 /// there, and no rule goes on from it. Conditions: these are the rules of the monoid, and the
 /// word's letters are in range.
-pub fn rewrite(alloc: Global, cayley: &Cayley, rules: &Rules, word: &Word) -> Result<Word, Memory>
+pub fn rewrite(cayley: &Cayley, rules: &Rules, word: &Word) -> Result<Word, Memory>
     requires rules { AreRules cayley.now.right.letters (SameNode cayley.now.right) cayley.now.words
         rules.now }
     requires over { Over cayley.now.right.letters word.now }
@@ -26,6 +25,6 @@ pub fn rewrite(alloc: Global, cayley: &Cayley, rules: &Rules, word: &Word) -> Re
     let _len = cayley.len();
     // Replacements lead each word to the least word of its element, so the graph tells at once
     // where they end.
-    let reduced = cayley.word(alloc, cayley.find(word))?;
+    let reduced = cayley.word(cayley.find(word))?;
     Ok(reduced)
 }

@@ -6,8 +6,8 @@ use Rattle.std.proofs.lemmas.List.Elements.{All-get_or}
 use Rattle.std.proofs.lemmas.List.{get_or-set_same, get_or-set_other, get_or-replicate, get_or_past, length-replicate}
 use Rattle.std.proofs.lemmas.Bool.{cases_lt}
 use Rattle.std.proofs.lemmas.Bool.Decides.{Decides-eqb, Decides-and, Decides-or, eqb_tells}
-use Rattle.language_theory.specs.Automaton.{Automaton, is_final, is_step, has_step}
-use Rattle.automata.specs.Nfa.{bare, with_initial}
+use Rattle.language_theory.specs.Automaton.{Automaton, is_final, is_step, has_step, IsInOrder}
+use Rattle.automata.specs.Nfa.{bare, with_initial, IsSized}
 use Rattle.expression_theory.specs.Expression.{Tree, Means}
 use Rattle.expression_theory.specs.Positions.{positions, numbered, PositionWord, Begins, Follows, Ends, letter_of, StepsTo, IsFinalPosition, IsPositions}
 use Rattle.expression_theory.specs.FirstLast.{has, has_empty, firsts, lasts, follows}
@@ -97,7 +97,7 @@ steps_from_below t zero q h = omega arith
 steps_from_below t (suc p) q (u, v, h) = let b : suc p < 1 + length (positions t) =
     (between 1 t (suc p) u (q ∷ v) h).1 in omega arith
 
-steps_to_position : (t : Tree) (p q : ℕ) → StepsTo t p q → 1 ≤ q
+pub steps_to_position : (t : Tree) (p q : ℕ) → StepsTo t p q → 1 ≤ q
 steps_to_position t zero q (w, h) = (between 1 t q [] w h).0
 steps_to_position t (suc p) q (u, v, h) =
     (between 1 t q (u ++ suc p ∷ []) v
@@ -129,6 +129,8 @@ pub built_positions : (t : Tree) (k : ℕ) (r : Summary) (m : Table) (xs : List 
 built_positions t k r m xs a part table e built = record {
   states = built.states ∙ ap (λ l. length l + 1) e;
   letters = built.letters;
+  initials = built.sized.automaton.initial;
+  finals = built.sized.automaton.finals;
   initial = λ p. (
     λ i. sym ((Decides-eqb 0 p).0 (sym (built.initial p) ∙ i)),
     λ i. built.initial p
@@ -140,6 +142,7 @@ built_positions t k r m xs a part table e built = record {
         ∙ (final_decides t p).1 i,
   );
   step = λ p x q. (to p x q, from p x q);
+  ordered = built.ordered;
 }
   where
     finals : (p : ℕ) → is_final a p ≡ Finals t p
@@ -194,8 +197,8 @@ pub built_from : (n k : ℕ) (he : Bool) (last : List ℕ) (table : Table) (xs :
     (a b c d : Automaton) → a ≡ with_initial (bare n k) 0 → HasFinals a b (λ p. he && (0 == p))
     → HasFinals b c (has last) →
     HasGrown c d (IsEarlyStep table xs k) → n ≡ length xs + 1 → All (λ x. x < k) xs
-    → IsBuilt he last table xs k d
-built_from n k he last table xs a b c d e f g h w below = record {
+    → IsSized d → IsInOrder d → IsBuilt he last table xs k d
+built_from n k he last table xs a b c d e f g h w below sized ordered = record {
   states = h.states ∙ g.states ∙ f.states ∙ ap (λ (m : Automaton). m.states) e ∙ w;
   letters = h.letters ∙ g.letters ∙ f.letters ∙ ap (λ (m : Automaton). m.letters) e;
   initial = λ p.
@@ -206,6 +209,8 @@ built_from n k he last table xs a b c d e f g h w below = record {
       ∙ ap (λ r. (r || (he && (0 == p))) || has last p) (ap (λ (m : Automaton). is_final m p) e
       ∙ none_set n p);
   steps = λ p x q. (to p x q, from p x q);
+  sized = sized;
+  ordered = ordered;
 }
   where
     none : (p x q : ℕ) → IsTrue (has_step c p x q) → ⊥

@@ -1,7 +1,8 @@
 -- What an automaton gains.
 use Rattle.std.specs.Prelude.{◌≡◌, ℕ, ◌-◌, ◌+◌, ◌<◌, ◌≤◌, ◌&&◌, ◌||◌, ◌==◌, ◌⊎◌, ◌↔◌, Bool, IsTrue, List, length, slice_index}
 use Rattle.language_theory.specs.Automaton as automaton
-use Rattle.language_theory.specs.Automaton.{Automaton, is_initial, is_final, has_step}
+use Rattle.language_theory.specs.Automaton.{Automaton, is_initial, is_final, has_step, IsInOrder}
+use Rattle.automata.specs.Nfa.{IsSized}
 use Rattle.expression_theory.specs.FirstLast.{has}
 use Rattle.regex_reader.specs.Marks.{Table, is_marked}
 
@@ -61,3 +62,5 @@ pub record IsBuilt (has_empty : Bool) (last : List ℕ) (table : Table) (positio
   pub finals : (p : ℕ) → is_final m p ≡ ((has_empty && (0 == p)) || has last p)
   pub steps : (p a q : ℕ) → IsTrue (has_step m p a q)
       ↔ IsTableStep table positions p a q
+  pub sized : IsSized m
+  pub ordered : IsInOrder m

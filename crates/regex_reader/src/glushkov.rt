@@ -2,7 +2,7 @@
 ghost use Rattle.std.specs.Prelude.{◌≡◌, ◌+◌, ◌++◌, ◌∷◌, [], ◌<◌, ◌≤◌, ◌&&◌, ◌==◌, ℕ, ◌↔◌, List, length, IfOk, OnOk};
 ghost use Rattle.std.specs.List.{All};
 ghost use Rattle.language_theory.specs.Automaton.{Automaton, Accepts};
-ghost use Rattle.automata.specs.Nfa.{IsSized};
+ghost use Rattle.syn_words.specs.Alphabet.{most_letters};
 ghost use Rattle.expression_theory.specs.Expression.{Means};
 ghost use Rattle.expression_theory.specs.Positions.{IsPositions, IsWithin};
 ghost use Rattle.expression_theory.specs.FirstLast.{has};
@@ -148,7 +148,7 @@ fn build(
     letters: u32,
 ) -> Result<Nfa, Memory>
     requires some { 1 ≤ letters }
-    requires few { letters ≤ 60 }
+    requires few { letters ≤ most_letters }
     requires width { marks.now.width ≡ length positions.now + 1 }
     requires narrow { marks.now.width ≤ widest }
     requires last { All (λ p. p < length positions.now + 1) part.now.last }
@@ -161,6 +161,8 @@ fn build(
     set_final_if(&mut nfa, part.has_empty(), 0);
     set_finals(&mut nfa, part.last());
     add_letters(alloc, &mut nfa, marks, positions, letters as u8)?;
+    // An automaton tells with its size that its steps stand in order.
+    let _size = nfa.states();
     Ok(nfa)
 }
 
@@ -174,7 +176,7 @@ fn build(
 pub fn positions(alloc: Global, expr: &Expr, letters: u32) -> Result<Nfa, Memory>
     requires within { IsWithin letters (tree_of expr.now) }
     requires some { 1 ≤ letters }
-    requires few { letters ≤ 60 }
+    requires few { letters ≤ most_letters }
     ensures positions { IfOk result (λ m. IsPositions (tree_of expr.now) letters m) }
     ensures language { IfOk result (λ m. (w : List ℕ) → Accepts m w ↔ Means (tree_of expr.now) w) }
 {

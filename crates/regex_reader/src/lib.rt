@@ -13,8 +13,6 @@ mod polish;
 mod reader;
 mod reading;
 mod sign;
-#[cfg(test)]
-mod tests;
 
 pub use expr::Expr;
 pub use fault::ExprFault;

@@ -1,12 +1,13 @@
 //! What a byte of a text is.
 ghost use Rattle.std.specs.Prelude.{◌≡◌, ◌≤◌, length};
+ghost use Rattle.syn_words.specs.Alphabet.{most_signs};
 ghost use Rattle.expression_theory.specs.Scan as scan;
 
 use expression_theory::{Class, Leaf, Quantifier, Sign};
 
 /// The class of a lower-case letter under an alphabet, which is given by its letters' bytes in order.
 fn letter_class(byte: u8, letters: &[u8]) -> Class
-    requires { length letters.now ≤ 26 }
+    requires { length letters.now ≤ most_signs }
     ensures { result ≡ scan.letter_class letters.now byte }
 {
     match letters.iter().position(|letter| *letter == byte) {
@@ -17,7 +18,7 @@ fn letter_class(byte: u8, letters: &[u8]) -> Class
 
 /// The class of a byte under an alphabet, which is given by its letters' bytes in order.
 pub fn classify(byte: u8, letters: &[u8]) -> Class
-    requires { length letters.now ≤ 26 }
+    requires { length letters.now ≤ most_signs }
     ensures { result ≡ scan.class_of letters.now byte }
 {
     match byte {

@@ -15,10 +15,10 @@ use Rattle.command_line.specs.Line.{IsLine, IsAccepted, IsFaultOf}
 use Rattle.command_line.proofs.Lines.{line_without_fault}
 use Rattle.report_sections.specs.Sections.{Limits, Said, sections_of, limits_of, AreSections, AreSaid}
 use Rattle.report_sections.specs.Answers.{Values, said_of, said_of_all}
-use Rattle.report_text.specs.Saying.{Channel, IsSaid, IsBrokenOff}
-use Rattle.report_text.proofs.Channels.{broken-after}
+use Rattle.report_buffer.specs.Saying.{Channel, IsSaid, IsBrokenOff}
+use Rattle.report_buffer.proofs.Channels.{broken-after}
 use Rattle.report_sections.specs.declared.sections.Section.{Section}
-use Rattle.report_sections.specs.declared.answers.Answer.{Answer}
+use Rattle.report_sections.specs.declared.answering.Answer.{Answer}
 use Rattle.report_outcome.specs.Reports.{Task, task_of, HasMoreSubsets, HasMoreElements, IsWithin, IsStop, Verdict, said, stopped, refused, IsReportOn, IsVerdict}
 use Rattle.report_outcome.specs.Outcome.{IsAboutFile, AreBytesFor, AreReadFor, AsksForFile, IsDue, IsGivenPrefix, Outcome, EndsOn, Ends, ending_of_fault}
 use Rattle.report_outcome.specs.declared.ending.Ending.{Ending}

@@ -6,9 +6,8 @@ use Rattle.language_theory.specs.Automaton.{Automaton, Accepts, SameSubset}
 use Rattle.language_theory.specs.Representatives.{HasMoreClasses}
 use Rattle.language_theory.specs.Nerode.{MinimalAutomaton, IsMinimal}
 use Rattle.language_theory.proofs.Minimal.{agreeing_minimal}
-use Rattle.language_theory.proofs.Representatives.{agreeing_classes}
 use Rattle.automaton_file.specs.FileText.{SourceText, BodyText, OfAutomaton, OfExpression, IsSoundBody, IsSoundSource, IsBodyAutomaton, language_of}
-use Rattle.automaton_file.proofs.SameAutomata.{one_body_automaton, same_subsets}
+use Rattle.automaton_file.proofs.SameAutomata.{one_body_automaton}
 use Rattle.report_outcome.specs.Reports.{HasMoreSubsets}
 
 -- the letters of a body's automaton are those of the alphabet
@@ -35,10 +34,8 @@ pub few_of_source : (source : SourceText) (m : Automaton) (n : ℕ) → IsSoundS
 few_of_source source m n sound is few (a, is_too, more) =
     few (subst (λ k. HasMoreClasses k (SameSubset m) n)
     (sym (body_letters (length source.letters) source.body m sound.body is))
-    (((agreeing_classes (length source.letters) (SameSubset a) (SameSubset m) (record {
-      both = λ u v _ _. same_subsets a m (one_body_automaton (length source.letters) source.body a m
-          is_too is) u v;
-    })).both n).0 more))
+    (subst (λ (x : Automaton). HasMoreClasses (length source.letters) (SameSubset x) n)
+    (one_body_automaton (length source.letters) source.body a m is_too is) more))
 
 -- what follows from a fact of a success is a fact of it
 pub on_ok_so : {A E : Type 0} {P Q : Type 0} (r : Result A E) → (P → Q) → OnOk r P → OnOk r Q

@@ -8,7 +8,7 @@ use Rattle.automaton_file.proofs.SourceLaws.{one_source, one_refusal, refusal_sp
 use Rattle.command_line.specs.Line.{IsAccepted}
 use Rattle.report_sections.specs.Sections.{sections_of, AreSaid}
 use Rattle.report_outcome.specs.Reports.{Task, HasMoreSubsets, IsStop, Verdict, said, stopped, refused, IsVerdict}
-use Rattle.report_outcome.specs.Outcome.{IsDue, Outcome, IsDecided}
+use Rattle.report_outcome.specs.Outcome.{IsDue, Outcome, IsDecided, ending_of, out_of}
 use Rattle.report_outcome.specs.declared.ending.Ending.{Ending}
 use Rattle.report_outcome.specs.declared.ending.Ending.TheVariants as ending
 use Rattle.report_outcome.specs.declared.ending.Stop.{Stop}
@@ -55,23 +55,6 @@ one_verdict bytes task (refused at code) (stopped t) h k =
 one_verdict bytes task (refused at code) (refused line other) h k =
     let same = one_refusal bytes at code line other h k in
     ap (λ n. refused n code) same.0 ∙ ap (refused line) same.1
-
--- how a run ends where a verdict is due and nothing else comes about, and what `out` gains
-abbrev pub ending_of : Verdict → Ending
-ending_of (said text) = cond text.limited ending.Limited ending.Whole
-ending_of (stopped s) = ending.Stopped s
-ending_of (refused at code) = ending.Refused at code
-
-abbrev pub out_of : Verdict → List ℕ
-out_of (said text) = text.text
-out_of (stopped s) = []
-out_of (refused at code) = []
-
--- the verdict is a text
-abbrev pub IsText : Verdict → Type 0
-IsText (said text) = ⊤
-IsText (stopped s) = ⊥
-IsText (refused at code) = ⊥
 
 -- an ending that is decided is that of a bad line, or that of the verdict that is due
 pub decided : (held : Option NamedFiles) (words : List (List ℕ)) (e : Ending) (out : List ℕ)

@@ -1,5 +1,5 @@
 -- How a run may end, and what it then wrote.
-use Rattle.std.specs.Prelude.{◌≡◌, ◌⊎◌, ℕ, ◌+◌, true, false, List, [], ◌++◌, codes, Option, Some, None, ⊤}
+use Rattle.std.specs.Prelude.{◌≡◌, ◌⊎◌, ℕ, ◌+◌, true, false, cond, List, [], ◌++◌, codes, Option, Some, None, ⊤}
 use Rattle.std.specs.Fmt.{decimal}
 use Rattle.std.specs.Io.KnownBytes.{Appends}
 use Rattle.language_theory.specs.Words.{IsPrefix}
@@ -100,6 +100,24 @@ Outcome held words ending.Limited out =
     IsDue held words (said (record { text = out; limited = true }))
 Outcome held words ending.CannotWrite out = BeginsDue held words out
 Outcome held words ending.NoMemory out = (out ≡ []) ⊎ BeginsDue held words out
+
+-- The table of verdicts: how a run ends where a verdict is due and no device and no want of memory
+-- comes between, and what `out` gains.
+abbrev pub ending_of : Verdict → Ending
+ending_of (said text) = cond text.limited ending.Limited ending.Whole
+ending_of (stopped s) = ending.Stopped s
+ending_of (refused at code) = ending.Refused at code
+
+abbrev pub out_of : Verdict → List ℕ
+out_of (said text) = text.text
+out_of (stopped s) = []
+out_of (refused at code) = []
+
+-- the verdict is a text
+abbrev pub IsText : Verdict → Type 0
+IsText (said text) = ⊤
+IsText (stopped s) = ⊥
+IsText (refused at code) = ⊥
 
 -- how a run ends where the words ask for nothing
 abbrev pub ending_of_fault : LineFault → Ending

@@ -3,8 +3,6 @@
 
 mod ending;
 mod reporting;
-#[cfg(test)]
-mod tests;
 
 pub use ending::{Ending, Stop, tell};
 pub use reporting::report;

@@ -31,7 +31,8 @@ use std::thread::Threads;
 use subset_minimal::{MOST_SUBSETS, MinDfa, MinFault, minimal};
 use syn_outside::{Gate, Sink};
 use syn_words::Memory;
-use syntactic_monoid::{SynFault, Syntactic, syntactic_of};
+use syntactic_enumeration::{SynFault, syntactic_of};
+use syntactic_monoid::Syntactic;
 
 /// Writes what a request asks for about the source that the bytes spell, and says how that ended: never with
 /// `CannotRead`, and with `CannotWrite` only where the output's count of faults rose. Condition: the numbers of the
@@ -50,17 +51,62 @@ pub fn report<R: Threads + Sync, O: Sink, G: Gate + Sync>(
     ensures failed { result ≡ Ending.CannotWrite → Rose (O.faults out.old) (O.faults out.new) }
     ensures count { O.faults out.old ≤ O.faults out.new }
 {
-    let source = match read_file(alloc, bytes) {
-        Ok(source) => source,
-        Err(FileFault::Refused(refusal)) => return Ending::Refused(refusal.line, refusal.code),
-        Err(FileFault::Memory) => return Ending::NoMemory,
-    };
-    let dfa = match minimal_of(alloc, &source, request.subsets) {
-        Ok(dfa) => dfa,
-        Err(MinFault::SubsetLimit) => return Ending::Stopped(Stop::Subsets(request.subsets)),
-        Err(MinFault::Memory) => return Ending::NoMemory,
-    };
-    let monoid = match monoid_of(rt, alloc, &dfa, request, gate) {
+    match read_file(alloc, bytes) {
+        Ok(source) => report_on_source(rt, alloc, &source, request, out, gate),
+        Err(FileFault::Refused(refusal)) => Ending::Refused(refusal.line, refusal.code),
+        Err(FileFault::Memory) => Ending::NoMemory,
+    }
+}
+
+/// The report on a source that a file spells. Conditions: the numbers of the request are in the ranges of their
+/// options, and the source is one that is read.
+fn report_on_source<R: Threads + Sync, O: Sink, G: Gate + Sync>(
+    rt: &R,
+    alloc: Global,
+    source: &Source,
+    request: &Request,
+    out: &mut O,
+    gate: &G,
+) -> Ending
+    requires range { IsInRange request.now }
+    requires sound { IsSoundSource (source_text source.now) }
+    requires buildable { CanBuild (length source.now.alphabet) (body_text source.now.body) }
+    ensures ends { (bytes : List ℕ) → IsSource bytes (source_text source.now)
+        → EndsOn bytes request.now result (O.written out.old) (O.written out.new) }
+    ensures read { result ≢ Ending.CannotRead }
+    ensures failed { result ≡ Ending.CannotWrite → Rose (O.faults out.old) (O.faults out.new) }
+    ensures count { O.faults out.old ≤ O.faults out.new }
+{
+    match minimal_of(alloc, source, request.subsets) {
+        Ok(dfa) => report_on_automaton(rt, alloc, source, &dfa, request, out, gate),
+        Err(MinFault::SubsetLimit) => Ending::Stopped(Stop::Subsets(request.subsets)),
+        Err(MinFault::Memory) => Ending::NoMemory,
+    }
+}
+
+/// The report on a source with its minimal automaton. Conditions: the numbers of the request are in the ranges of their
+/// options, and words lead to no more sets of states than its limit of subsets.
+fn report_on_automaton<R: Threads + Sync, O: Sink, G: Gate + Sync>(
+    rt: &R,
+    alloc: Global,
+    source: &Source,
+    dfa: &MinDfa,
+    request: &Request,
+    out: &mut O,
+    gate: &G,
+) -> Ending
+    requires range { IsInRange request.now }
+    requires minimal { IsMinimal (length source.now.alphabet) (language_of (source_text source.now))
+        dfa.now }
+    requires size { dfa.now.graph.size ≤ MOST_SUBSETS }
+    requires few { ¬ HasMoreSubsets (source_text source.now) request.now.subsets }
+    ensures ends { (bytes : List ℕ) → IsSource bytes (source_text source.now)
+        → EndsOn bytes request.now result (O.written out.old) (O.written out.new) }
+    ensures read { result ≢ Ending.CannotRead }
+    ensures failed { result ≡ Ending.CannotWrite → Rose (O.faults out.old) (O.faults out.new) }
+    ensures count { O.faults out.old ≤ O.faults out.new }
+{
+    let monoid = match monoid_of(rt, alloc, dfa, request, gate) {
         Ok(monoid) => monoid,
         Err(SynFault::ElementLimit) => return Ending::Stopped(Stop::Elements(request.elements)),
         Err(SynFault::Memory) => return Ending::NoMemory,
@@ -73,8 +119,8 @@ pub fn report<R: Threads + Sync, O: Sink, G: Gate + Sync>(
     };
     let values = Values {
         request,
-        source: &source,
-        dfa: &dfa,
+        source,
+        dfa,
         monoid: &monoid,
         green: &green,
         table: &table,

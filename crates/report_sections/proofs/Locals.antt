@@ -5,12 +5,12 @@ use Rattle.std.specs.Prelude.{is_some}
 use Rattle.language_theory.specs.Congruence.{Syntactic}
 use Rattle.language_theory.specs.Representatives.{AreRepresentatives}
 use Rattle.language_theory.specs.Words.{Over, word_at}
-use Rattle.locally_testable.specs.declared.answer.LtAnswer.{LtAnswer}
-use Rattle.locally_testable.specs.declared.answer.LtAnswer.TheVariants as answer
-use Rattle.locally_testable.specs.declared.witness.LtKind.{LtKind}
-use Rattle.locally_testable.specs.declared.witness.LtKind.TheVariants as kind
-use Rattle.locally_testable.specs.declared.witness.LtWitness.{LtWitness}
-use Rattle.locally_testable.specs.Witness.{IsWitnessOf}
+use Rattle.answers.specs.declared.factors.LtAnswer.{LtAnswer}
+use Rattle.answers.specs.declared.factors.LtAnswer.TheVariants as answer
+use Rattle.answers.specs.declared.factors.LtKind.{LtKind}
+use Rattle.answers.specs.declared.factors.LtKind.TheVariants as kind
+use Rattle.answers.specs.declared.factors.LtWitness.{LtWitness}
+use Rattle.local_submonoids.specs.Witness.{IsWitnessOf}
 use Rattle.locally_testable.specs.Answer.{IsLocalAnswer}
 use Rattle.locally_testable.proofs.OneAnswer.{one_local_answer}
 use Rattle.parallel_table.specs.ProductTables.{ProductTable}

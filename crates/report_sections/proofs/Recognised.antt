@@ -10,20 +10,20 @@ use Rattle.syntactic_monoid.specs.SyntacticMonoid.{SyntacticMonoid, recognised, 
 use Rattle.syntactic_monoid.proofs.OneMonoid.{same_words, monoid_of_agreeing}
 use Rattle.cayley_tables.specs.CayleyGraphs.{CayleyGraphs}
 use Rattle.parallel_table.specs.ProductTables.{ProductTable, IsTableOf}
-use Rattle.locally_testable.specs.declared.answer.LtAnswer.{LtAnswer}
+use Rattle.answers.specs.declared.factors.LtAnswer.{LtAnswer}
 use Rattle.locally_testable.specs.Answer.{IsLocalAnswer}
 use Rattle.locally_testable.proofs.Agreeing.{local_answer_again}
-use Rattle.piecewise_testable.specs.declared.answer.PtAnswer.{PtAnswer}
-use Rattle.piecewise_testable.specs.declared.answer.PtAnswer.TheVariants as answer
-use Rattle.piecewise_testable.specs.declared.witness.PtWitness.{PtWitness}
-use Rattle.piecewise_testable.specs.declared.witness.CWitness.{CWitness}
-use Rattle.piecewise_testable.specs.declared.witness.Side.TheVariants.{Right}
+use Rattle.answers.specs.declared.subwords.PtAnswer.{PtAnswer}
+use Rattle.answers.specs.declared.subwords.PtAnswer.TheVariants as answer
+use Rattle.answers.specs.declared.subwords.PtWitness.{PtWitness}
+use Rattle.answers.specs.declared.commuting.CWitness.{CWitness}
+use Rattle.answers.specs.declared.subwords.Side.TheVariants.{Right}
 use Rattle.piecewise_testable.specs.Answers.{IsPiecewiseAnswer}
 use Rattle.piecewise_testable.specs.Witness.{IsWitness, IsRTrivialAnswer}
 use Rattle.piecewise_testable.specs.Commuting.{IsCommutativeAnswer}
 use Rattle.piecewise_testable.proofs.Agreeing.{answer_on_agrees, commutative_answer_agrees}
 use Rattle.piecewise_testable.proofs.Answering.{piecewise_answer_agrees}
-use Rattle.star_free.specs.declared.answer.SfAnswer.{SfAnswer}
+use Rattle.answers.specs.declared.powers.SfAnswer.{SfAnswer}
 use Rattle.star_free.specs.Answer.{IsStarFreeAnswer, Tells}
 use Rattle.star_free.proofs.OneList.{answer_in_both, tells_in_both}
 use Rattle.report_text.specs.PiecewiseSection.{IsWitnessOver, IsPiecewiseOver, IsRTrivialOver}

@@ -3,11 +3,12 @@ use Rattle.std.proofs.Common.{◌≡◌, ◌↔◌, ◌≤◌, ℕ, Bool, IsTrue
 use Rattle.std.specs.Cmp.{both_ways}
 use Rattle.language_theory.specs.Words.{Over}
 use Rattle.syntactic_monoid.specs.SyntacticMonoid.{SyntacticMonoid, IsSyntacticMonoid}
-use Rattle.star_free_lists.specs.Constructing.{most_depth, algebra_of}
-use Rattle.star_free_lists.proofs.Letters.{letters_constructed, letters_pruned}
-use Rattle.star_free.specs.declared.deciding.Loop.{Loop}
-use Rattle.star_free.specs.declared.answer.SfAnswer.{SfAnswer}
-use Rattle.star_free.specs.declared.answer.SfAnswer.TheVariants as answer
+use Rattle.local_divisors.specs.Constructing.{most_depth, algebra_of}
+use Rattle.local_divisors.proofs.Letters.{letters_constructed}
+use Rattle.star_free_lists.proofs.PrunedLetters.{letters_pruned}
+use Rattle.answers.specs.declared.powers.Loop.{Loop}
+use Rattle.answers.specs.declared.powers.SfAnswer.{SfAnswer}
+use Rattle.answers.specs.declared.powers.SfAnswer.TheVariants as answer
 use Rattle.star_free.specs.Loops.{IsFirstLoopWord, IsLoop}
 use Rattle.star_free.specs.Answer.{IsStarFreeAnswer, images_of, finals_of}
 use Rattle.star_free.proofs.OneList.{one_answer_of}

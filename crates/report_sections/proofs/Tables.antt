@@ -10,7 +10,7 @@ use Rattle.monoid_theory.proofs.Places.{product_is_one}
 use Rattle.cayley_tables.proofs.AgreeingGraphs.{graphs_agree, agreeing_product, graphs_are_cayley}
 use Rattle.parallel_table.specs.ProductTables.{ProductTable, cell}
 use Rattle.syntactic_monoid.specs.SyntacticMonoid.{SyntacticMonoid, IsSyntacticMonoid}
-use Rattle.report_text.specs.Texts.{texts_below, separated, gap_before}
+use Rattle.report_buffer.specs.Texts.{texts_below, separated, gap_before}
 use Rattle.report_text.specs.TableSection.{table_text, products_text, section_text}
 use Rattle.report_sections.specs.Sections.{AreProducts, IsTableWithin}
 

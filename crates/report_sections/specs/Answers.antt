@@ -19,17 +19,17 @@ use Rattle.report_text.specs.PiecewiseSection.{IsPiecewiseOver, IsRTrivialOver, 
 use Rattle.report_text.specs.LocalSection.{IsLocalOver, local_text, is_local_limit}
 use Rattle.report_text.specs.CommutativeSection.{IsCommutativeOver, commutative_text}
 use Rattle.report_text.specs.TableSection.{section_text}
-use Rattle.star_free.specs.declared.answer.SfAnswer.{SfAnswer}
-use Rattle.locally_testable.specs.declared.answer.LtAnswer.{LtAnswer}
-use Rattle.piecewise_testable.specs.declared.answer.PtAnswer.{PtAnswer}
-use Rattle.piecewise_testable.specs.declared.witness.PtWitness.{PtWitness}
-use Rattle.piecewise_testable.specs.declared.witness.CWitness.{CWitness}
+use Rattle.answers.specs.declared.powers.SfAnswer.{SfAnswer}
+use Rattle.answers.specs.declared.factors.LtAnswer.{LtAnswer}
+use Rattle.answers.specs.declared.subwords.PtAnswer.{PtAnswer}
+use Rattle.answers.specs.declared.subwords.PtWitness.{PtWitness}
+use Rattle.answers.specs.declared.commuting.CWitness.{CWitness}
 use Rattle.report_sections.specs.Sections.{Limits, limits_of, Said, joined, IsTableWithin}
 use Rattle.report_sections.specs.declared.sections.Section.{Section}
 use Rattle.report_sections.specs.declared.sections.Section.TheVariants as section
-use Rattle.report_sections.specs.declared.answers.Values as code
-use Rattle.report_sections.specs.declared.answers.Answer.{Answer}
-use Rattle.report_sections.specs.declared.answers.Answer.TheVariants as answer
+use Rattle.report_sections.specs.declared.answering.Values as code
+use Rattle.report_sections.specs.declared.answering.Answer.{Answer}
+use Rattle.report_sections.specs.declared.answering.Answer.TheVariants as answer
 
 -- what is computed once for the sections of a request: its limits, a source, its minimal automaton,
 -- its syntactic monoid and Green's classes if the command needs them, and the table of its products

@@ -24,13 +24,13 @@ use Rattle.report_text.specs.PiecewiseSection.{piecewise_text, is_piecewise_limi
 use Rattle.report_text.specs.LocalSection.{local_text, is_local_limit}
 use Rattle.report_text.specs.CommutativeSection.{commutative_text}
 use Rattle.report_text.specs.TableSection.{section_text}
-use Rattle.star_free.specs.declared.answer.SfAnswer.{SfAnswer}
+use Rattle.answers.specs.declared.powers.SfAnswer.{SfAnswer}
 use Rattle.star_free.specs.Answer.{IsStarFreeAnswer, Tells as TellsStarFree}
-use Rattle.locally_testable.specs.declared.answer.LtAnswer.{LtAnswer}
+use Rattle.answers.specs.declared.factors.LtAnswer.{LtAnswer}
 use Rattle.locally_testable.specs.Answer.{IsLocalAnswer, Tells}
-use Rattle.piecewise_testable.specs.declared.answer.PtAnswer.{PtAnswer}
-use Rattle.piecewise_testable.specs.declared.witness.PtWitness.{PtWitness}
-use Rattle.piecewise_testable.specs.declared.witness.CWitness.{CWitness}
+use Rattle.answers.specs.declared.subwords.PtAnswer.{PtAnswer}
+use Rattle.answers.specs.declared.subwords.PtWitness.{PtWitness}
+use Rattle.answers.specs.declared.commuting.CWitness.{CWitness}
 use Rattle.piecewise_testable.specs.Answers.{IsPiecewiseAnswer}
 use Rattle.piecewise_testable.specs.Witness.{IsRTrivialAnswer}
 use Rattle.piecewise_testable.specs.Commuting.{IsCommutativeAnswer}

@@ -9,10 +9,11 @@ ghost use Rattle.syntactic_monoid.specs.SyntacticMonoid.{SyntacticMonoid};
 ghost use Rattle.report_sections.specs.Sections.{IsStarFreeSection, IsPiecewiseSection, IsLocalSection, IsRTrivialSection, IsCommutativeSection};
 ghost use Rattle.report_sections.specs.Answers.{AreValues, HasGreen, HasTable, values_of, star_free_said, piecewise_said, local_said, r_trivial_said, commutative_said};
 
-use crate::answers::Values;
-use locally_testable::{LtAnswer, local};
-use piecewise_testable::{CWitness, PtAnswer, PtWitness, commutative, piecewise, r_trivial};
-use star_free::{SfAnswer, star_free};
+use crate::answering::Values;
+use answers::{CWitness, LtAnswer, PtAnswer, PtWitness, SfAnswer};
+use locally_testable::local;
+use piecewise_testable::{commutative, piecewise, r_trivial};
+use star_free::star_free;
 use std::alloc::Global;
 use syn_words::Memory;
 

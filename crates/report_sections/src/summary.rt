@@ -8,7 +8,7 @@ ghost use Rattle.report_sections.specs.Sections.{AreCounts, IsSection};
 ghost use Rattle.report_sections.specs.declared.sections.Section.TheVariants as section;
 ghost use Rattle.report_sections.specs.Answers.{AreValues, HasGreen, HasTable, IsSayable, values_of, said_of};
 
-use crate::answers::{Answer, Values};
+use crate::answering::{Answer, Values};
 use crate::questions::{
     answer_commutative, answer_local, answer_piecewise, answer_r_trivial, answer_star_free,
     is_local_limit, is_piecewise_limit, is_star_free_limit,

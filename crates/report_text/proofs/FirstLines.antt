@@ -5,19 +5,19 @@ use Rattle.std.specs.List.{list_any}
 use Rattle.std.specs.Fmt.{decimal, digits, digits_onto, digit_glyph}
 use Rattle.std.proofs.lemmas.Bool.{or_parts, or_from, ne_eqb}
 use Rattle.std.proofs.lemmas.List.Folds.{list_any-append}
-use Rattle.star_free.specs.declared.answer.SfAnswer.{SfAnswer}
-use Rattle.star_free.specs.declared.answer.SfAnswer.TheVariants as star_free
-use Rattle.piecewise_testable.specs.declared.answer.PtAnswer.{PtAnswer}
-use Rattle.piecewise_testable.specs.declared.answer.PtAnswer.TheVariants as piecewise
-use Rattle.piecewise_testable.specs.declared.witness.Side.{Side}
-use Rattle.piecewise_testable.specs.declared.witness.Side.TheVariants as side
-use Rattle.piecewise_testable.specs.declared.witness.PtWitness.{PtWitness}
-use Rattle.piecewise_testable.specs.declared.witness.CWitness.{CWitness}
-use Rattle.locally_testable.specs.declared.witness.LtKind.{LtKind}
-use Rattle.locally_testable.specs.declared.witness.LtKind.TheVariants as kind
-use Rattle.locally_testable.specs.declared.answer.LtAnswer.{LtAnswer}
-use Rattle.locally_testable.specs.declared.answer.LtAnswer.TheVariants as local
-use Rattle.report_text.specs.Texts.{number_line}
+use Rattle.answers.specs.declared.powers.SfAnswer.{SfAnswer}
+use Rattle.answers.specs.declared.powers.SfAnswer.TheVariants as star_free
+use Rattle.answers.specs.declared.subwords.PtAnswer.{PtAnswer}
+use Rattle.answers.specs.declared.subwords.PtAnswer.TheVariants as piecewise
+use Rattle.answers.specs.declared.subwords.Side.{Side}
+use Rattle.answers.specs.declared.subwords.Side.TheVariants as side
+use Rattle.answers.specs.declared.subwords.PtWitness.{PtWitness}
+use Rattle.answers.specs.declared.commuting.CWitness.{CWitness}
+use Rattle.answers.specs.declared.factors.LtKind.{LtKind}
+use Rattle.answers.specs.declared.factors.LtKind.TheVariants as kind
+use Rattle.answers.specs.declared.factors.LtAnswer.{LtAnswer}
+use Rattle.answers.specs.declared.factors.LtAnswer.TheVariants as local
+use Rattle.report_buffer.specs.Texts.{number_line}
 use Rattle.report_text.specs.StarFreeSection.{star_free_text}
 use Rattle.report_text.specs.PiecewiseSection.{side_text, witness_text, piecewise_text, r_trivial_text}
 use Rattle.report_text.specs.LocalSection.{kind_text, local_text}

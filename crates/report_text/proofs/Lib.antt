@@ -1,4 +1,1 @@
-pub mod Channels
-pub mod Separated
-pub mod Pieces
 pub mod FirstLines

@@ -5,7 +5,7 @@ use Rattle.language_theory.specs.Words.{word_at}
 use Rattle.language_theory.specs.Automaton.{is_marked}
 use Rattle.language_theory.specs.ShortlexGraph.{target}
 use Rattle.language_theory.specs.Nerode.{MinimalAutomaton}
-use Rattle.report_text.specs.Texts.{texts_below, numbers_below, word_text, membership_text}
+use Rattle.report_buffer.specs.Texts.{texts_below, numbers_below, word_text, membership_text}
 
 -- a number, the least word, whether it is in the language, and the next state for each letter
 abbrev pub state_text : List ℕ → MinimalAutomaton → ℕ → List ℕ

@@ -1,8 +1,8 @@
 -- The text of the section `commutative`.
 use Rattle.std.specs.Prelude.{◌<◌, ◌++◌, ⊤, ℕ, List, codes, Option, Some, None}
 use Rattle.language_theory.specs.Words.{Over}
-use Rattle.piecewise_testable.specs.declared.witness.CWitness.{CWitness}
-use Rattle.report_text.specs.Texts.{letter_text, word_line, first_line}
+use Rattle.answers.specs.declared.commuting.CWitness.{CWitness}
+use Rattle.report_buffer.specs.Texts.{letter_text, word_line, first_line}
 
 -- the letters and the words of a witness are over k letters
 pub record IsSwapOver (k : ℕ) (w : CWitness) : Type 0 where

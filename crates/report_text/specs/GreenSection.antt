@@ -6,7 +6,7 @@ use Rattle.language_theory.specs.Automaton.{is_marked}
 use Rattle.cayley_tables.specs.CayleyGraphs.{CayleyGraphs}
 use Rattle.green_relations.specs.GreenClasses.{GreenClasses}
 use Rattle.green_relations.specs.EggBoxes.{AreBoxesOf, box_at, row_at, cell_at}
-use Rattle.report_text.specs.Texts.{texts_below, separated, word_text}
+use Rattle.report_buffer.specs.Texts.{texts_below, separated, word_text}
 
 -- the least words of the elements, and for each whether it is idempotent
 pub record Marked : Type 0 where

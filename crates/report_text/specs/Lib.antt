@@ -1,5 +1,3 @@
-pub mod Texts
-pub mod Saying
 pub mod AutomatonSection
 pub mod MonoidSection
 pub mod StarFreeSection

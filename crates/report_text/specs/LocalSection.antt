@@ -1,12 +1,12 @@
 -- The text of the section `local`.
 use Rattle.std.specs.Prelude.{◌++◌, ⊤, ℕ, Bool, true, false, List, [], codes}
 use Rattle.language_theory.specs.Words.{Over}
-use Rattle.locally_testable.specs.declared.witness.LtKind.{LtKind}
-use Rattle.locally_testable.specs.declared.witness.LtKind.TheVariants as kind
-use Rattle.locally_testable.specs.declared.witness.LtWitness.{LtWitness}
-use Rattle.locally_testable.specs.declared.answer.LtAnswer.{LtAnswer}
-use Rattle.locally_testable.specs.declared.answer.LtAnswer.TheVariants as answer
-use Rattle.report_text.specs.Texts.{number_line, word_line, first_line}
+use Rattle.answers.specs.declared.factors.LtKind.{LtKind}
+use Rattle.answers.specs.declared.factors.LtKind.TheVariants as kind
+use Rattle.answers.specs.declared.factors.LtWitness.{LtWitness}
+use Rattle.answers.specs.declared.factors.LtAnswer.{LtAnswer}
+use Rattle.answers.specs.declared.factors.LtAnswer.TheVariants as answer
+use Rattle.report_buffer.specs.Texts.{number_line, word_line, first_line}
 
 -- the words of a witness are over k letters
 pub record IsLocalWitnessOver (k : ℕ) (w : LtWitness) : Type 0 where

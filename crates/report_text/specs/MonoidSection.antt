@@ -6,7 +6,7 @@ use Rattle.language_theory.specs.Automaton.{is_marked}
 use Rattle.language_theory.specs.ShortlexGraph.{target}
 use Rattle.monoid_theory.specs.Presentation.{rule_at}
 use Rattle.syntactic_monoid.specs.SyntacticMonoid.{SyntacticMonoid}
-use Rattle.report_text.specs.Texts.{texts_below, numbers_below, word_text, membership_text}
+use Rattle.report_buffer.specs.Texts.{texts_below, numbers_below, word_text, membership_text}
 
 -- the number of elements
 abbrev pub elements_head : SyntacticMonoid → List ℕ

@@ -1,12 +1,12 @@
 -- The texts of the sections `piecewise` and `rtrivial`.
 use Rattle.std.specs.Prelude.{◌<◌, ◌++◌, ⊤, ℕ, Bool, true, false, List, codes, Option, Some, None}
 use Rattle.language_theory.specs.Words.{Over}
-use Rattle.piecewise_testable.specs.declared.witness.Side.{Side}
-use Rattle.piecewise_testable.specs.declared.witness.Side.TheVariants as side
-use Rattle.piecewise_testable.specs.declared.witness.PtWitness.{PtWitness}
-use Rattle.piecewise_testable.specs.declared.answer.PtAnswer.{PtAnswer}
-use Rattle.piecewise_testable.specs.declared.answer.PtAnswer.TheVariants as answer
-use Rattle.report_text.specs.Texts.{letter_text, number_line, word_line, first_line}
+use Rattle.answers.specs.declared.subwords.Side.{Side}
+use Rattle.answers.specs.declared.subwords.Side.TheVariants as side
+use Rattle.answers.specs.declared.subwords.PtWitness.{PtWitness}
+use Rattle.answers.specs.declared.subwords.PtAnswer.{PtAnswer}
+use Rattle.answers.specs.declared.subwords.PtAnswer.TheVariants as answer
+use Rattle.report_buffer.specs.Texts.{letter_text, number_line, word_line, first_line}
 
 -- the words of a witness are over k letters
 pub record IsWitnessOver (k : ℕ) (w : PtWitness) : Type 0 where

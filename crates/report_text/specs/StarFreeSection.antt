@@ -6,10 +6,10 @@ use Rattle.star_free_theory.specs.declared.nodes.SfNode.{SfNode}
 use Rattle.star_free_theory.specs.declared.nodes.SfNode.TheVariants as node
 use Rattle.star_free_theory.specs.Pruning.{node_at}
 use Rattle.star_free_lists.specs.SfList.{StarFreeList, AreLettersBelow}
-use Rattle.star_free.specs.declared.deciding.Loop.{Loop}
-use Rattle.star_free.specs.declared.answer.SfAnswer.{SfAnswer}
-use Rattle.star_free.specs.declared.answer.SfAnswer.TheVariants as answer
-use Rattle.report_text.specs.Texts.{texts_below, letter_text, number_line, word_line, first_line}
+use Rattle.answers.specs.declared.powers.Loop.{Loop}
+use Rattle.answers.specs.declared.powers.SfAnswer.{SfAnswer}
+use Rattle.answers.specs.declared.powers.SfAnswer.TheVariants as answer
+use Rattle.report_buffer.specs.Texts.{texts_below, letter_text, number_line, word_line, first_line}
 
 -- the words that never settle are over k letters
 pub record IsLoopOver (k : ℕ) (l : Loop) : Type 0 where

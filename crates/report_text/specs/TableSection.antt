@@ -2,7 +2,7 @@
 use Rattle.std.specs.Prelude.{ℕ, List, Option, Some, None, ◌++◌, codes}
 use Rattle.std.specs.Fmt.{decimal}
 use Rattle.parallel_table.specs.ProductTables.{ProductTable, cell}
-use Rattle.report_text.specs.Texts.{texts_below, separated}
+use Rattle.report_buffer.specs.Texts.{texts_below, separated}
 
 -- the number of elements
 abbrev pub table_head : ProductTable → List ℕ

@@ -1,12 +1,13 @@
 //! The section `automaton` of a report.
 ghost use Rattle.std.specs.Prelude.{◌≡◌, ◌<◌, ◌++◌, length, false, OnOk};
 ghost use Rattle.language_theory.specs.ShortlexGraph.{target};
-ghost use Rattle.report_text.specs.Saying.{Says, channel};
-ghost use Rattle.report_text.specs.Texts.{numbers_below};
+ghost use Rattle.report_buffer.specs.Saying.{Says, channel};
+ghost use Rattle.report_buffer.specs.Texts.{numbers_below};
 ghost use Rattle.report_text.specs.AutomatonSection.{automaton_text, automaton_head, state_text};
 
-use crate::buffer::{Buffer, SayFault, say_rendered};
-use crate::rendering::{push_bytes, push_membership, push_number, push_word};
+use report_buffer::{
+    Buffer, SayFault, push_bytes, push_membership, push_number, push_word, say_rendered,
+};
 use std::alloc::Global;
 use subset_minimal::MinDfa;
 use syn_outside::Sink;

@@ -1,11 +1,12 @@
 //! The section `commutative` of a report.
 ghost use Rattle.std.specs.Prelude.{◌≡◌, ◌<◌, ◌++◌, length, false, OnOk};
-ghost use Rattle.report_text.specs.Saying.{Says, channel};
+ghost use Rattle.report_buffer.specs.Saying.{Says, channel};
 ghost use Rattle.report_text.specs.CommutativeSection.{IsSwapOver, IsCommutativeOver, pair_text, letters_line, swap_text, commutative_text};
 
-use crate::buffer::{Buffer, SayFault, say_rendered};
-use crate::rendering::{push_bytes, push_first_line, push_letter, push_word_line};
-use piecewise_testable::CWitness;
+use answers::CWitness;
+use report_buffer::{
+    Buffer, SayFault, push_bytes, push_first_line, push_letter, push_word_line, say_rendered,
+};
 use std::alloc::Global;
 use syn_outside::Sink;
 use syn_words::{Alphabet, Memory};

@@ -2,14 +2,15 @@
 ghost use Rattle.std.specs.Prelude.{◌≡◌, ◌<◌, ◌≤◌, ◌++◌, ℕ, codes, length, slice_index, [], false, All, OnOk};
 ghost use Rattle.language_theory.specs.Automaton.{is_marked};
 ghost use Rattle.green_relations.specs.EggBoxes.{box_at, row_at, cell_at};
-ghost use Rattle.report_text.specs.Saying.{Says, channel};
+ghost use Rattle.report_buffer.specs.Saying.{Says, channel};
 ghost use Rattle.report_text.specs.GreenSection.{AreBoxesToSay, marked, green_text, boxes_text, boxes_head, box_text, box_head};
 ghost use Rattle.report_text.specs.GreenSection.{row_text, cells_text, cell_text, member_text, star_text, marks_below, idempotents_text};
 
-use crate::buffer::{Buffer, SayFault, say_rendered};
-use crate::rendering::{push_bytes, push_count, push_gap, push_number, push_word};
 use cayley_tables::Cayley;
 use green_relations::{Boxes, Green};
+use report_buffer::{
+    Buffer, SayFault, push_bytes, push_count, push_gap, push_number, push_word, say_rendered,
+};
 use std::alloc::Global;
 use syn_outside::Sink;
 use syn_words::{Alphabet, Memory};
@@ -233,7 +234,7 @@ fn push_member(
     ensures { OnOk result (text.new.items ≡ text.old.items
         ++ member_text alphabet.now (marked cayley.now.words green.now.idempotents) element) }
 {
-    let word = cayley.word(alloc, element)?;
+    let word = cayley.word(element)?;
     push_word(text, alphabet, &word)?;
     push_star(text, green.is_idempotent(element))
 }

@@ -1,12 +1,13 @@
 //! The section `local` of a report.
 ghost use Rattle.std.specs.Prelude.{◌≡◌, ◌++◌, length, false, OnOk};
 ghost use Rattle.language_theory.specs.Words.{Over};
-ghost use Rattle.report_text.specs.Saying.{Says, channel};
+ghost use Rattle.report_buffer.specs.Saying.{Says, channel};
 ghost use Rattle.report_text.specs.LocalSection.{IsLocalWitnessOver, IsLocalOver, kind_text, other_line, local_witness_text, local_text};
 
-use crate::buffer::{Buffer, SayFault, say_rendered};
-use crate::rendering::{push_bytes, push_first_line, push_number_line, push_word_line};
-use locally_testable::{LtAnswer, LtKind, LtWitness};
+use answers::{LtAnswer, LtKind, LtWitness};
+use report_buffer::{
+    Buffer, SayFault, push_bytes, push_first_line, push_number_line, push_word_line, say_rendered,
+};
 use std::alloc::Global;
 use syn_outside::Sink;
 use syn_words::{Alphabet, Memory, Word};

@@ -2,14 +2,15 @@
 ghost use Rattle.std.specs.Prelude.{◌≡◌, ◌<◌, ◌++◌, length, false, OnOk};
 ghost use Rattle.language_theory.specs.ShortlexGraph.{target, SameNode};
 ghost use Rattle.monoid_theory.specs.Presentation.{AreRules};
-ghost use Rattle.report_text.specs.Saying.{Says, channel};
-ghost use Rattle.report_text.specs.Texts.{numbers_below};
+ghost use Rattle.report_buffer.specs.Saying.{Says, channel};
+ghost use Rattle.report_buffer.specs.Texts.{numbers_below};
 ghost use Rattle.report_text.specs.MonoidSection.{monoid_text, elements_text, elements_head, element_text, rules_text, rules_head, rule_text};
 
-use crate::buffer::{Buffer, SayFault, say_rendered};
-use crate::rendering::{push_bytes, push_membership, push_number, push_word};
 use cayley_tables::Cayley;
 use presentation::Rules;
+use report_buffer::{
+    Buffer, SayFault, push_bytes, push_membership, push_number, push_word, say_rendered,
+};
 use std::alloc::Global;
 use syn_outside::Sink;
 use syn_words::{Alphabet, Memory};
@@ -113,7 +114,7 @@ fn push_element(
         (text.new.items ≡ text.old.items ++ element_text alphabet.now monoid.now element) }
 {
     let cayley = monoid.cayley();
-    let word = cayley.word(alloc, element)?;
+    let word = cayley.word(element)?;
     push_number(text, element)?;
     push_bytes(text, b" ")?;
     push_word(text, alphabet, &word)?;
@@ -177,7 +178,7 @@ fn push_rule(
     ensures { OnOk result (text.new.items ≡ text.old.items
         ++ rule_text alphabet.now monoid.now.graphs.words rules.now rule) }
 {
-    let right = monoid.cayley().word(alloc, rules.right(rule))?;
+    let right = monoid.cayley().word(rules.right(rule))?;
     push_word(text, alphabet, rules.left(rule))?;
     push_bytes(text, b" ")?;
     push_word(text, alphabet, &right)?;

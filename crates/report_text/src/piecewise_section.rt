@@ -1,13 +1,13 @@
 //! The sections `piecewise` and `rtrivial` of a report.
 ghost use Rattle.std.specs.Prelude.{◌≡◌, ◌<◌, ◌++◌, length, false, OnOk};
-ghost use Rattle.report_text.specs.Saying.{Says, channel};
+ghost use Rattle.report_buffer.specs.Saying.{Says, channel};
 ghost use Rattle.report_text.specs.PiecewiseSection.{IsWitnessOver, IsPiecewiseOver, IsRTrivialOver, side_text, letter_line, no_head, witness_text, piecewise_text, r_trivial_text};
 
-use crate::buffer::{Buffer, SayFault, say_rendered};
-use crate::rendering::{
-    push_bytes, push_first_line, push_letter, push_number_line, push_word_line,
+use answers::{PtAnswer, PtWitness, Side};
+use report_buffer::{
+    Buffer, SayFault, push_bytes, push_first_line, push_letter, push_number_line, push_word_line,
+    say_rendered,
 };
-use piecewise_testable::{PtAnswer, PtWitness, Side};
 use std::alloc::Global;
 use syn_outside::Sink;
 use syn_words::{Alphabet, Memory};

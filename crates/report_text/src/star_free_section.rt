@@ -1,15 +1,16 @@
 //! The section `starfree` of a report.
 ghost use Rattle.std.specs.Prelude.{◌≡◌, ◌<◌, ◌++◌, ℕ, length, false, OnOk};
 ghost use Rattle.star_free_lists.specs.SfList.{AreLettersBelow};
-ghost use Rattle.report_text.specs.Saying.{Says, channel};
-ghost use Rattle.report_text.specs.Texts.{number_line};
+ghost use Rattle.report_buffer.specs.Saying.{Says, channel};
+ghost use Rattle.report_buffer.specs.Texts.{number_line};
 ghost use Rattle.report_text.specs.StarFreeSection.{IsLoopOver, IsStarFreeOver, pair_text, node_text, node_line, list_head, nodes_text, list_text, loop_words, loop_numbers, loop_lines, loop_text, star_free_text};
 
-use crate::buffer::{Buffer, SayFault, say, say_rendered};
-use crate::rendering::{
-    push_bytes, push_first_line, push_letter, push_number, push_number_line, push_word_line,
+use answers::{Loop, SfAnswer};
+use report_buffer::{
+    Buffer, SayFault, push_bytes, push_first_line, push_letter, push_number, push_number_line,
+    push_word_line, say, say_rendered,
 };
-use star_free::{Loop, SfAnswer, SfList, SfNode};
+use star_free_lists::{SfList, SfNode};
 use std::alloc::Global;
 use syn_outside::Sink;
 use syn_words::{Alphabet, Memory};

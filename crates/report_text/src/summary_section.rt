@@ -1,19 +1,16 @@
 //! The section `summary` of a report.
 ghost use Rattle.std.specs.Prelude.{◌≡◌, ◌++◌, ℕ, List, false, OnOk};
-ghost use Rattle.report_text.specs.Saying.{Says, channel};
+ghost use Rattle.report_buffer.specs.Saying.{Says, channel};
 ghost use Rattle.report_text.specs.StarFreeSection.{star_free_text};
 ghost use Rattle.report_text.specs.PiecewiseSection.{piecewise_text, r_trivial_text};
 ghost use Rattle.report_text.specs.LocalSection.{local_text};
 ghost use Rattle.report_text.specs.CommutativeSection.{commutative_text};
 ghost use Rattle.report_text.specs.SummarySection.{counts_text, summary_text, heads_text, star_free_head, piecewise_head, local_head, r_trivial_head, commutative_head};
 
-use crate::buffer::{Buffer, SayFault, say_rendered};
 use crate::local_section::push_kind;
 use crate::piecewise_section::push_no_head;
-use crate::rendering::{push_bytes, push_number_line};
-use locally_testable::LtAnswer;
-use piecewise_testable::{CWitness, PtAnswer, PtWitness};
-use star_free::SfAnswer;
+use answers::{CWitness, LtAnswer, PtAnswer, PtWitness, SfAnswer};
+use report_buffer::{Buffer, SayFault, push_bytes, push_number_line, say_rendered};
 use std::alloc::Global;
 use syn_outside::Sink;
 use syn_words::Memory;

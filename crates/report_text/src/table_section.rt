@@ -1,13 +1,12 @@
 //! The section `table` of a report.
 ghost use Rattle.std.specs.Prelude.{◌≡◌, ◌<◌, ◌++◌, false, codes, decimal, option_map, OnOk};
 ghost use Rattle.parallel_table.specs.ProductTables.{cell};
-ghost use Rattle.report_text.specs.Saying.{Says, channel};
-ghost use Rattle.report_text.specs.Texts.{separated};
+ghost use Rattle.report_buffer.specs.Saying.{Says, channel};
+ghost use Rattle.report_buffer.specs.Texts.{separated};
 ghost use Rattle.report_text.specs.TableSection.{section_text, table_text, table_head, table_limit_text, products_text};
 
-use crate::buffer::{Buffer, SayFault, say_rendered};
-use crate::rendering::{push_bytes, push_gap, push_number};
 use parallel_table::Table;
+use report_buffer::{Buffer, SayFault, push_bytes, push_gap, push_number, say_rendered};
 use std::alloc::Global;
 use syn_outside::Sink;
 use syn_words::Memory;

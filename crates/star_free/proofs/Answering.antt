@@ -13,7 +13,7 @@ use Rattle.monoid_theory.proofs.Agreeing.{agreeing_index, agreeing_aperiodic}
 use Rattle.monoid_theory.proofs.Aperiodic.{loop_not_aperiodic, first_loop_is_one}
 use Rattle.monoid_theory.proofs.Contexts.{separation_is_one}
 use Rattle.monoid_theory.proofs.Exponents.{over_power}
-use Rattle.star_free.specs.declared.deciding.Loop.{Loop}
+use Rattle.answers.specs.declared.powers.Loop.{Loop}
 use Rattle.star_free.specs.declared.deciding.Powers.{Powers}
 use Rattle.star_free.specs.declared.deciding.Powers.TheVariants as powers
 use Rattle.star_free.specs.Loops.{IsFirstLoopWord, IsLoop, AreDecided}

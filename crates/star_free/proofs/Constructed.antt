@@ -1,15 +1,16 @@
 -- The syntactic monoid of an aperiodic language as an algebra of the construction, and what the
 -- construction's list denotes.
-use Rattle.std.proofs.Common.{◌≡◌, ◌↔◌, ℕ, ◌+◌, ◌<◌, ◌≤◌, Bool, true, false, List, [], ◌∷◌, ◌++◌, inl, inr, append-nil, length, map, slice_index, All, Some, refl, sym, ap, subst, ◌∙◌, arith}
+use Rattle.std.proofs.Common.{◌≡◌, ◌↔◌, ℕ, ◌+◌, ◌<◌, ◌≤◌, Bool, true, false, List, [], ◌∷◌, ◌++◌, inl, inr, append-nil, length, map, slice_index, All, Some, None, refl, sym, ap, subst, ◌∙◌, arith}
 use Rattle.std.proofs.lemmas.Bool.{cases_Bool}
 use Rattle.std.proofs.lemmas.List.{get_or-map, length-map, map-append}
-use Rattle.language_theory.specs.Words.{Over}
+use Rattle.language_theory.specs.Words.{Over, word_at}
 use Rattle.language_theory.specs.Automaton.{is_marked}
 use Rattle.language_theory.specs.Languages.{HaveSameWords}
 use Rattle.language_theory.specs.Congruence.{Syntactic}
 use Rattle.language_theory.specs.Representatives.{IsPlaceOf}
 use Rattle.language_theory.specs.ShortlexGraph.{node, target, SameNode}
 use Rattle.language_theory.proofs.Graphs.{node_within}
+use Rattle.language_theory.proofs.Shortlex.{over_append}
 use Rattle.monoid_theory.specs.Powers.{IsAperiodic}
 use Rattle.monoid_theory.specs.Products.{IsProduct}
 use Rattle.monoid_theory.proofs.Agreeing.{agreeing_aperiodic}
@@ -19,19 +20,19 @@ use Rattle.parallel_table.specs.ProductTables.{ProductTable, IsTableOf, cell}
 use Rattle.syntactic_monoid.specs.SyntacticMonoid.{SyntacticMonoid, recognised, IsSyntactic}
 use Rattle.star_free_theory.specs.StarFree.{Denotes}
 use Rattle.star_free_theory.specs.declared.nodes.SfNode.{SfNode}
-use Rattle.star_free_theory.specs.Instance.{Among, value}
-use Rattle.star_free_theory.specs.Construction.{Outcome, Algebra, IsAlgebra, DenotesFinals, construction, count_from, keep}
+use Rattle.star_free_theory.specs.Instance.{Among, room, value}
+use Rattle.star_free_theory.specs.Construction.{Outcome, Algebra, IsAlgebra, DenotesFinals, construction, count_from, done, keep}
 use Rattle.star_free_theory.proofs.Settling.{never_star_free}
-use Rattle.star_free.specs.declared.deciding.Loop.{Loop}
+use Rattle.answers.specs.declared.powers.Loop.{Loop}
 use Rattle.star_free.specs.Loops.{IsFirstLoopWord, IsLoop}
 use Rattle.star_free_theory.proofs.FiniteLists.{among_keep, keep_among}
 use Rattle.star_free_theory.proofs.Places.{are_algebras, value_place}
-use Rattle.star_free_theory.proofs.Whole.{among_count, count_among, length-count}
+use Rattle.star_free_theory.proofs.Whole.{among_count, construction_right, count_among, length-count}
 use Rattle.star_free_lists.specs.SfList.{most_nodes}
-use Rattle.star_free_lists.specs.Constructing.{CanConstruct, most_depth, algebra_of}
-use Rattle.star_free_lists.proofs.Choosing.{among_all}
-use Rattle.star_free_lists.proofs.WholeMonoid.{count_index, count_more}
-use Rattle.star_free.specs.Answer.{images_of, finals_of}
+use Rattle.local_divisors.specs.Constructing.{CanConstruct, most_depth, algebra_of}
+use Rattle.local_divisors.proofs.Choosing.{among_all}
+use Rattle.local_divisors.proofs.WholeMonoid.{count_index, count_more}
+use Rattle.star_free.specs.Answer.{images_of, finals_of, HasStarFreeList}
 use Rattle.star_free.proofs.Looping.{agree, syntactic_graphs}
 
 -- one more image, and one more element, which is kept where it is marked
@@ -110,18 +111,39 @@ module _ (m : SyntacticMonoid) (h : IsSyntactic m) where
       (λ x i. let (j, y) = keep_among (is_marked m.accepted) (count_from 0 (length words)) x i in
       let c = (among_count 0 (length words) x j).1 in omega (arith, c, e))
 
-  module _ (t : ProductTable) (is : IsTableOf m.graphs t) where
-    products : (i j : ℕ) → i < length m.graphs.words → j < length m.graphs.words
-        → IsProduct (SameNode m.graphs.right) m.graphs.words i j (cell t i j)
-    products i j p q = is.each i j (let e = is.side in omega (arith, p, e))
-        (let e = is.side in omega (arith, q, e))
-
+  -- Of a way to multiply the elements.
+  module _ (product : ℕ → ℕ → ℕ) (products : (i j : ℕ) → i < length m.graphs.words
+      → j < length m.graphs.words
+      → IsProduct (SameNode m.graphs.right) m.graphs.words i j (product i j)) where
     value_is : (w : List ℕ) → Over m.graphs.right.letters w
-        → value (cell t) 0 (slice_index (images_of m)) w ≡ node m.graphs.right w
+        → value product 0 (slice_index (images_of m)) w ≡ node m.graphs.right w
     value_is w o =
         let p = value_place k same words g.congruence g.shortlex.least
-        (cell t) products (slice_index (images_of m)) image_place w o in
-        (node_place w o).only (value (cell t) 0 (slice_index (images_of m)) w) p.within p.related
+        product products (slice_index (images_of m)) image_place w o in
+        (node_place w o).only (value product 0 (slice_index (images_of m)) w) p.within p.related
+
+    -- a list that denotes the words whose value is among the finals denotes the language
+    denotes_by : (list : List SfNode) (root : ℕ)
+        → ((w : List ℕ) → Denotes m.graphs.right.letters list root w
+        ↔ Over m.graphs.right.letters w
+        × Among (finals_of m) (value product 0 (slice_index (images_of m)) w))
+        → HaveSameWords m.graphs.right.letters (recognised m)
+        (Denotes m.graphs.right.letters list root)
+    denotes_by list root d = record { both = λ w o. (into w o, out w o) }
+      where
+        into : (w : List ℕ) → Over k w → recognised m w → Denotes k list root w
+        into w o r = (d w).1 (
+          o,
+          subst (Among (finals_of m)) (sym (value_is w o))
+              (among_keep (is_marked m.accepted) (count_from 0 (length words))
+              (node m.graphs.right w) (count_among 0 (length words) (node m.graphs.right w)
+              (omega arith) (let p = (node_place w o).within in omega (arith, p))) r),
+        )
+
+        out : (w : List ℕ) → Over k w → Denotes k list root w → recognised m w
+        out w o x = (keep_among (is_marked m.accepted) (count_from 0 (length words))
+            (node m.graphs.right w)
+            (subst (Among (finals_of m)) (value_is w o) ((d w).0 x).1)).1
 
     module _ (a : IsAperiodic m.graphs.right.letters
         (Syntactic m.graphs.right.letters (recognised m))) where
@@ -129,6 +151,63 @@ module _ (m : SyntacticMonoid) (h : IsSyntactic m) where
       settles = agreeing_aperiodic k (Syntactic k (recognised m)) same
           (agree_turned k same (Syntactic k (recognised m)) (agree m h)) a
 
+      algebra_by : IsAlgebra m.graphs.right.letters (record {
+        elements = count_from 0 (length m.graphs.words);
+        product = product;
+        identity = 0;
+        image = slice_index (images_of m);
+      })
+      algebra_by =
+          are_algebras k same words g.congruence g.shortlex.least product products
+          (slice_index (images_of m)) image_place settles
+
+  -- the product of two elements, by their words
+  product_of : ℕ → ℕ → ℕ
+  product_of i j = node m.graphs.right (word_at m.graphs.words i ++ word_at m.graphs.words j)
+
+  products_of : (i j : ℕ) → i < length m.graphs.words → j < length m.graphs.words
+      → IsProduct (SameNode m.graphs.right) m.graphs.words i j
+      (node m.graphs.right (word_at m.graphs.words i ++ word_at m.graphs.words j))
+  products_of i j p q = record {
+    left = p;
+    right = q;
+    place = node_place (word_at words i ++ word_at words j)
+        (over_append k (word_at words i) (word_at words j) (g.shortlex.least.over i p)
+        (g.shortlex.least.over j q));
+  }
+
+  -- the construction without limits gives a list, and it denotes the language
+  pub has_star_free_list : IsAperiodic m.graphs.right.letters
+      (Syntactic m.graphs.right.letters (recognised m))
+      → HasStarFreeList m.graphs.right.letters (recognised m)
+  has_star_free_list a =
+      let f : ℕ → ℕ → ℕ =
+      λ i j. node m.graphs.right (word_at m.graphs.words i ++ word_at m.graphs.words j) in
+      let A : Algebra = record {
+        elements = count_from 0 (length m.graphs.words);
+        product = f;
+        identity = 0;
+        image = slice_index (images_of m);
+      } in
+      let n = k + room (length A.elements) in
+      let c = construction_right k None n A (finals_of m) (algebra_by f products_of a)
+      (λ p i. (keep_among (is_marked m.accepted) (count_from 0 (length words)) p i).0) in
+      let z = c.there (refl, omega arith) in
+      let right = c.right z.0 z.1 in (
+        z.0.0,
+        z.0.1,
+        record { earlier = right.begun.earlier; inside = right.stands.there },
+        denotes_by f products_of z.0.0 z.0.1 right.stands.means,
+      )
+
+  module _ (t : ProductTable) (is : IsTableOf m.graphs t) where
+    products : (i j : ℕ) → i < length m.graphs.words → j < length m.graphs.words
+        → IsProduct (SameNode m.graphs.right) m.graphs.words i j (cell t i j)
+    products i j p q = is.each i j (let e = is.side in omega (arith, p, e))
+        (let e = is.side in omega (arith, q, e))
+
+    module _ (a : IsAperiodic m.graphs.right.letters
+        (Syntactic m.graphs.right.letters (recognised m))) where
       algebra : IsAlgebra m.graphs.right.letters (algebra_of t (images_of m))
       algebra =
           let P : ℕ → Type 0 = λ n. let A : Algebra = record {
@@ -137,9 +216,7 @@ module _ (m : SyntacticMonoid) (h : IsSyntactic m) where
             identity = 0;
             image = slice_index (images_of m);
           } in IsAlgebra m.graphs.right.letters A in
-          subst P (sym is.side)
-          (are_algebras k same words g.congruence g.shortlex.least (cell t) products
-          (slice_index (images_of m)) image_place settles)
+          subst P (sym is.side) (algebra_by (cell t) products a)
 
       -- the syntactic monoid is one for the construction
       pub can_construct : (most : ℕ) → most ≤ most_nodes
@@ -156,21 +233,7 @@ module _ (m : SyntacticMonoid) (h : IsSyntactic m) where
         → DenotesFinals m.graphs.right.letters (algebra_of t (images_of m)) (finals_of m) list root
         → HaveSameWords m.graphs.right.letters (recognised m)
         (Denotes m.graphs.right.letters list root)
-    denotes_language list root d = record { both = λ w o. (into w o, out w o) }
-      where
-        into : (w : List ℕ) → Over k w → recognised m w → Denotes k list root w
-        into w o r = (d.words w).1 (
-          o,
-          subst (Among (finals_of m)) (sym (value_is w o))
-              (among_keep (is_marked m.accepted) (count_from 0 (length words))
-              (node m.graphs.right w) (count_among 0 (length words) (node m.graphs.right w)
-              (omega arith) (let p = (node_place w o).within in omega (arith, p))) r),
-        )
-
-        out : (w : List ℕ) → Over k w → Denotes k list root w → recognised m w
-        out w o x = (keep_among (is_marked m.accepted) (count_from 0 (length words))
-            (node m.graphs.right w)
-            (subst (Among (finals_of m)) (value_is w o) ((d.words w).0 x).1)).1
+    denotes_language list root d = denotes_by (cell t) products list root d.words
 
   -- what the construction comes to from lists that are these
   pub comes_here : (t : ProductTable) (images finals : List ℕ) (most : ℕ)

@@ -19,7 +19,7 @@ use Rattle.monoid_theory.proofs.Settling.{never_settles}
 use Rattle.cayley_tables.specs.CayleyGraphs.{AreCayleyGraphs}
 use Rattle.cayley_tables.proofs.AgreeingGraphs.{graphs_agree, graphs_are_cayley}
 use Rattle.syntactic_monoid.specs.SyntacticMonoid.{SyntacticMonoid, recognised, IsSyntactic}
-use Rattle.star_free.specs.declared.deciding.Loop.{Loop}
+use Rattle.answers.specs.declared.powers.Loop.{Loop}
 use Rattle.star_free.specs.Loops.{IsLoop}
 use Rattle.star_free.proofs.PowerNodes.{product_is_node}
 

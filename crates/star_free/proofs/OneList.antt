@@ -17,14 +17,14 @@ use Rattle.star_free_theory.specs.declared.nodes.SfNode.{SfNode}
 use Rattle.star_free_theory.specs.Construction.{Outcome, done, depth, nodes, construction}
 use Rattle.star_free_theory.specs.Pruning.{IsPruning}
 use Rattle.star_free_lists.specs.SfList.{StarFreeList}
-use Rattle.star_free_lists.specs.Constructing.{most_depth, algebra_of}
+use Rattle.local_divisors.specs.Constructing.{most_depth, algebra_of}
 use Rattle.star_free_lists.proofs.OnePruning.{one_pruning}
-use Rattle.star_free.specs.declared.deciding.Loop.{Loop}
-use Rattle.star_free.specs.declared.answer.SfAnswer.{SfAnswer}
-use Rattle.star_free.specs.declared.answer.SfAnswer.TheVariants as answer
+use Rattle.answers.specs.declared.powers.Loop.{Loop}
+use Rattle.answers.specs.declared.powers.SfAnswer.{SfAnswer}
+use Rattle.answers.specs.declared.powers.SfAnswer.TheVariants as answer
 use Rattle.star_free.specs.declared.deciding.Powers.TheVariants as powers
 use Rattle.star_free.specs.Loops.{IsLoop}
-use Rattle.star_free.specs.Answer.{IsConstructed, IsPrunedList, IsStarFreeAnswer, Tells, images_of, finals_of}
+use Rattle.star_free.specs.Answer.{IsConstructed, IsPrunedList, IsStarFreeAnswer, HasStarFreeList, Tells, images_of, finals_of}
 use Rattle.star_free.proofs.Answering.{decided_in_both, one_loop, no_both}
 
 -- ## Languages with the same words
@@ -58,12 +58,15 @@ module _ (k : ℕ) (L M : List ℕ → Type 0) (s : HaveSameWords k L M) where
     );
   }
 
+  list_in_both : HasStarFreeList k L → HasStarFreeList k M
+  list_in_both (list, root, is, h) = (list, root, is, both_have (Denotes k list root) h)
+
   pub tells_in_both : (a : SfAnswer) → Tells k L a → Tells k M a
-  tells_in_both (answer.Yes l) h = both_have (Denotes k l.nodes l.root) h
+  tells_in_both (answer.Yes l) h = (h.0, both_have (Denotes k l.nodes l.root) h.1)
   tells_in_both (answer.No l) h = λ list root g. h list root (also_have (Denotes k list root) g)
-  tells_in_both answer.TableLimit h = tt
-  tells_in_both answer.Depth h = tt
-  tells_in_both answer.Nodes h = tt
+  tells_in_both answer.TableLimit h = list_in_both h
+  tells_in_both answer.Depth h = list_in_both h
+  tells_in_both answer.Nodes h = list_in_both h
 
 -- ## One table
 

@@ -1,6 +1,6 @@
 -- Whether a language is star-free: the answer within the limits, and what it tells (Schützenberger
 -- 1965).
-use Rattle.std.specs.Prelude.{◌≡◌, ℕ, Bool, true, false, List, map, length, Some, ⊤}
+use Rattle.std.specs.Prelude.{◌≡◌, ℕ, Bool, true, false, List, map, length, Some}
 use Rattle.language_theory.specs.Automaton.{is_marked}
 use Rattle.language_theory.specs.Congruence.{Syntactic}
 use Rattle.language_theory.specs.Languages.{HaveSameWords}
@@ -8,14 +8,14 @@ use Rattle.language_theory.specs.ShortlexGraph.{target}
 use Rattle.monoid_theory.specs.Powers.{IsAperiodic}
 use Rattle.parallel_table.specs.ProductTables.{ProductTable, IsSquare, IsTableOf}
 use Rattle.syntactic_monoid.specs.SyntacticMonoid.{SyntacticMonoid}
-use Rattle.star_free_theory.specs.StarFree.{Denotes}
+use Rattle.star_free_theory.specs.StarFree.{Denotes, IsStarFreeList}
 use Rattle.star_free_theory.specs.declared.nodes.SfNode.{SfNode}
 use Rattle.star_free_theory.specs.Construction.{Outcome, done, depth, nodes, keep, count_from, construction}
 use Rattle.star_free_theory.specs.Pruning.{IsPruning}
 use Rattle.star_free_lists.specs.SfList.{StarFreeList}
-use Rattle.star_free_lists.specs.Constructing.{most_depth, algebra_of}
-use Rattle.star_free.specs.declared.answer.SfAnswer.{SfAnswer}
-use Rattle.star_free.specs.declared.answer.SfAnswer.TheVariants as answer
+use Rattle.local_divisors.specs.Constructing.{most_depth, algebra_of}
+use Rattle.answers.specs.declared.powers.SfAnswer.{SfAnswer}
+use Rattle.answers.specs.declared.powers.SfAnswer.TheVariants as answer
 use Rattle.star_free.specs.Loops.{IsLoop}
 
 -- the elements of the letters, in order
@@ -58,11 +58,18 @@ module _ (k : ℕ) (L : List ℕ → Type 0) (m : SyntacticMonoid) (most : ℕ) 
   IsStarFreeAnswer has_table (answer.Yes l) =
       IsAperiodic k (Syntactic k L) × (has_table ≡ true) × IsPrunedList k m most l
 
--- What an answer tells of the language: a list that denotes it, or that no list does.
+-- the language has a star-free list
+abbrev pub HasStarFreeList : ℕ → (List ℕ → Type 0) → Type 0
+HasStarFreeList k L = (list : List SfNode) × (root : ℕ) × IsStarFreeList list root
+    × HaveSameWords k L (Denotes k list root)
+
+-- What an answer tells of the language: a list that denotes it, or that no list does; and of a limit
+-- that there is a list all the same.
 abbrev pub Tells : ℕ → (List ℕ → Type 0) → SfAnswer → Type 0
-Tells k L (answer.Yes l) = HaveSameWords k L (Denotes k l.nodes l.root)
+Tells k L (answer.Yes l) =
+    IsStarFreeList l.nodes l.root × HaveSameWords k L (Denotes k l.nodes l.root)
 Tells k L (answer.No l) =
     (list : List SfNode) (root : ℕ) → ¬ HaveSameWords k L (Denotes k list root)
-Tells k L answer.TableLimit = ⊤
-Tells k L answer.Depth = ⊤
-Tells k L answer.Nodes = ⊤
+Tells k L answer.TableLimit = HasStarFreeList k L
+Tells k L answer.Depth = HasStarFreeList k L
+Tells k L answer.Nodes = HasStarFreeList k L

@@ -6,7 +6,7 @@ use Rattle.language_theory.specs.Congruence.{Syntactic}
 use Rattle.language_theory.specs.Representatives.{AreRepresentatives}
 use Rattle.monoid_theory.specs.Powers.{IsAperiodic, IsFirstLoop, NeverSettle}
 use Rattle.monoid_theory.specs.Separation.{IsSeparation}
-use Rattle.star_free.specs.declared.deciding.Loop.{Loop}
+use Rattle.answers.specs.declared.powers.Loop.{Loop}
 use Rattle.star_free.specs.declared.deciding.Powers.{Powers}
 use Rattle.star_free.specs.declared.deciding.Powers.TheVariants as powers
 

@@ -7,27 +7,13 @@ ghost use Rattle.syntactic_monoid.specs.SyntacticMonoid.{recognised};
 ghost use Rattle.star_free_lists.specs.SfList.{most_nodes};
 ghost use Rattle.star_free.specs.Answer.{IsStarFreeAnswer, Tells, images_of, finals_of};
 
-use crate::deciding::{Loop, Powers, decide};
+use crate::deciding::{Powers, decide};
+use answers::SfAnswer;
+use local_divisors::{SfFault, construct};
 use parallel_table::Table;
-use star_free_lists::{SfFault, SfList, construct};
 use std::alloc::Global;
 use syn_words::Memory;
 use syntactic_monoid::Syntactic;
-
-/// Whether a language is star-free, within limits.
-#[derive(Drop)]
-pub enum SfAnswer {
-    /// This list denotes the language.
-    Yes(SfList),
-    /// No star-free list denotes the language: the powers of these words never settle.
-    No(Loop),
-    /// There is no table of products.
-    TableLimit,
-    /// The construction comes to an instance that is deeper than `MOST_DEPTH`.
-    Depth,
-    /// The construction comes to a node more than the limit.
-    Nodes,
-}
 
 /// Whether the language of a syntactic monoid is star-free.
 ///
@@ -92,6 +78,8 @@ fn constructed(
     ) {
         Ok(list) => {
             let pruned = list.prune(alloc)?;
+            // Its contract tells that this is a list.
+            let _len = pruned.len();
             Ok(SfAnswer::Yes(pruned))
         }
         Err(SfFault::Depth) => Ok(SfAnswer::Depth),

@@ -7,23 +7,10 @@ ghost use Rattle.syntactic_monoid.specs.SyntacticMonoid.{recognised};
 ghost use Rattle.star_free.specs.Loops.{IsLoop, AreDecided};
 
 use crate::cycles::{Cycle, cycle_of, power_of};
+use answers::Loop;
 use std::alloc::Global;
-use syn_words::{Memory, Word};
+use syn_words::Memory;
 use syntactic_monoid::Syntactic;
-
-/// Words whose powers never settle for a language: for each exponent, `u x^n v` is in the language for some greater n
-/// and not in it for some other (Schützenberger 1965). x is the least word of the least element whose period is greater
-/// than 1, with its index and its period; u and v are the least context that separates `x^index` from `x^(index + 1)`,
-/// and `first_in` tells whether `u x^index v` is in the language.
-#[derive(Drop)]
-pub struct Loop {
-    pub u: Word,
-    pub x: Word,
-    pub v: Word,
-    pub index: u32,
-    pub period: u32,
-    pub first_in: bool,
-}
 
 /// What the powers of the elements do: all settle, as the periods are 1, or some never do.
 #[derive(Drop)]
@@ -55,12 +42,12 @@ fn loop_of(alloc: Global, monoid: &Syntactic, element: u32, cycle: Cycle) -> Res
     ensures { IfOk result (λ l. IsLoop monoid.now.graphs.right.letters (recognised monoid.now) l) }
 {
     let cayley = monoid.cayley();
-    let x = cayley.word(alloc, element)?;
+    let x = cayley.word(element)?;
     let power = power_of(cayley, element, cycle.index);
     let next = cayley.product(power, element);
-    let word = cayley.word(alloc, power)?;
-    let next_word = cayley.word(alloc, next)?;
-    let separation = monoid.separate(alloc, &word, &next_word)?;
+    let word = cayley.word(power)?;
+    let next_word = cayley.word(next)?;
+    let separation = monoid.separate(&word, &next_word)?;
     let context = separation.unwrap();
     let before = cayley.product(cayley.find(&context.u), power);
     let first = cayley.product(before, cayley.find(&context.v));

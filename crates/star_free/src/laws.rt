@@ -3,7 +3,7 @@ ghost use Rattle.std.specs.Prelude.{◌≡◌, ℕ, Bool};
 ghost use Rattle.language_theory.specs.Languages.{HaveSameWords};
 ghost use Rattle.syntactic_monoid.specs.SyntacticMonoid.{SyntacticMonoid, IsSyntacticMonoid};
 ghost use Rattle.star_free.specs.declared.deciding.Powers.{Powers};
-ghost use Rattle.star_free.specs.declared.answer.SfAnswer.{SfAnswer};
+ghost use Rattle.answers.specs.declared.powers.SfAnswer.{SfAnswer};
 ghost use Rattle.star_free.specs.Loops.{AreDecided};
 ghost use Rattle.star_free.specs.Answer.{IsStarFreeAnswer, Tells};
 

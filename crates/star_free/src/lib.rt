@@ -5,9 +5,9 @@ mod answer;
 mod cycles;
 mod deciding;
 pub mod laws;
-#[cfg(test)]
-mod tests;
 
-pub use answer::{SfAnswer, star_free};
-pub use deciding::{Loop, Powers, decide};
-pub use star_free_lists::{SfList, SfNode};
+pub use answer::star_free;
+pub use answers::{Loop, SfAnswer};
+pub use deciding::{Powers, decide};
+pub use local_divisors::{SfFault, construct};
+pub use star_free_lists::{SfList, SfNode, prune};

@@ -1,11 +1,3 @@
 pub mod SfList
-pub mod Building
-pub mod Instances
-pub mod Grouping
-pub mod Tasks
-pub mod Finishing
-pub mod Recursion
-pub mod Constructing
-pub mod Examples
 pub mod Pruning
 pub mod Accepting

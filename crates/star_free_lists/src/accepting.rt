@@ -14,12 +14,12 @@ use syn_words::{Memory, Word};
 impl SfList {
     /// Whether the list denotes a word, in any alphabet that has its letters. It takes a mark for each node and each
     /// two places of the word.
-    pub fn accepts(&self, alloc: Global, word: &Word) -> Result<bool, Memory>
+    pub fn accepts(&self, word: &Word) -> Result<bool, Memory>
         ensures { IfOk result (λ b. (k : ℕ) → Over k word.now
             → IsTrue b ↔ Denotes k self.now.nodes self.now.root word.now) }
     {
         let letters = word.letters();
-        let marks = all_marks(alloc, self.nodes(), letters)?;
+        let marks = all_marks(self.allocator(), self.nodes(), letters)?;
         Ok(mark(letters, marks.as_slice(), self.root(), 0, letters.len()))
     }
 }

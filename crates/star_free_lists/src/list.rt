@@ -30,6 +30,12 @@ impl Model for SfList {
     ghost invariant = { λ l. IsSfList (record { nodes = l.nodes.items; root = l.root }) };
 }
 
+/// The largest number of nodes of a list.
+pub fn the_limits()
+    ensures nodes { MOST_NODES ≡ 1000000 }
+    ensures list { most_nodes ≡ 1000000 }
+{}
+
 impl SfList {
     /// The list of these nodes, with this root. Condition: there are 1 to 1,000,000 nodes, each names earlier ones only,
     /// and the root is one of them.
@@ -73,6 +79,11 @@ impl SfList {
         ensures list { IsSfList self.now }
     {
         self.nodes.as_slice()
+    }
+
+    /// The allocator that the list keeps.
+    pub(crate) fn allocator(&self) -> Global {
+        *self.nodes.allocator()
     }
 
     /// The number of the root.

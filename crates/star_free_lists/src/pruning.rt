@@ -4,7 +4,7 @@ ghost use Rattle.language_theory.specs.Automaton.{is_marked};
 ghost use Rattle.star_free_theory.specs.StarFree.{Denotes, IsStarFreeList, NamesBelow};
 ghost use Rattle.star_free_theory.specs.declared.nodes.SfNode.{SfNode};
 ghost use Rattle.star_free_theory.specs.Pruning.{IsAt, IsPruning, IsRenumbered, Names};
-ghost use Rattle.star_free_lists.specs.SfList.{IsSfList};
+ghost use Rattle.star_free_lists.specs.SfList.{IsSfList, AreLettersBelow};
 ghost use Rattle.star_free_lists.specs.Pruning.{AreDistinct, AreNeeded, AreNamedMarked};
 
 use crate::list::SfList;
@@ -13,18 +13,35 @@ use std::alloc::Global;
 use syn_words::Memory;
 
 impl SfList {
-    /// The list of the nodes that the root needs, itself too, in their order, numbered anew. It denotes the same words.
+    /// The list of the nodes that the root needs, itself too, in their order, numbered anew. It denotes the same words,
+    /// and names no letter that this list doesn't name.
     pub fn prune(&self, alloc: Global) -> Result<SfList, Memory>
         ensures pruning { IfOk result (λ l. (kept : List ℕ)
             × IsPruning self.now.nodes self.now.root kept l.nodes l.root) }
         ensures words { IfOk result (λ l. (k : ℕ) (w : List ℕ)
             → Denotes k l.nodes l.root w ↔ Denotes k self.now.nodes self.now.root w) }
         ensures distinct { IfOk result (λ l. AreDistinct self.now.nodes → AreDistinct l.nodes) }
+        ensures letters { IfOk result (λ l. (k : ℕ) → AreLettersBelow k self.now.nodes
+            → AreLettersBelow k l.nodes) }
     {
         let marks = needed(alloc, self.nodes(), self.root())?;
         let list = kept(alloc, self.nodes(), self.root(), marks.as_slice())?;
         Ok(list)
     }
+}
+
+/// The pruning of a list, as `SfList::prune` gives it.
+pub fn prune(alloc: Global, list: &SfList) -> Result<SfList, Memory>
+    ensures pruning { IfOk result (λ l. (kept : List ℕ)
+        × IsPruning list.now.nodes list.now.root kept l.nodes l.root) }
+    ensures words { IfOk result (λ l. (k : ℕ) (w : List ℕ)
+        → Denotes k l.nodes l.root w ↔ Denotes k list.now.nodes list.now.root w) }
+    ensures distinct { IfOk result (λ l. AreDistinct list.now.nodes → AreDistinct l.nodes) }
+    ensures letters { IfOk result (λ l. (k : ℕ) → AreLettersBelow k list.now.nodes
+        → AreLettersBelow k l.nodes) }
+{
+    let pruned = list.prune(alloc)?;
+    Ok(pruned)
 }
 
 /// Marks of the nodes that the root needs.

@@ -19,8 +19,9 @@ Opens held name left ready opened.Ready = (ready ≡ true) × IsWholeFile held n
 Opens held name left ready opened.Missing = (ready ≡ false) × Lacks held name
 Opens held name left ready opened.Failed = ready ≡ false
 
--- a read put the next bytes at the front of `into`, or found none left, or failed and took none
+-- a read put the next bytes at the front of `into`, or found none left; of one that failed nothing is
+-- said
 abbrev pub Gives : Option (List ℕ) → Option (List ℕ) → List ℕ → Got → Type 0
 Gives old new into (got.Bytes n) = (1 ≤ n) × (n ≤ length into) × Consumes old new (take n into)
 Gives old new into got.End = IsAtEnd old × Keeps old new
-Gives old new into got.Failed = Keeps old new
+Gives old new into got.Failed = ⊤

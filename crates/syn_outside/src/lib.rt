@@ -24,6 +24,3 @@ pub use real_files::RealFiles;
 pub use real_sink::RealSink;
 pub use sink::{Put, Sink};
 pub use writing::put_all;
-
-#[cfg(test)]
-mod tests;

@@ -9,9 +9,17 @@ IsLowerCase byte = (97 ≤ byte) × (byte ≤ 122)
 abbrev pub AreDistinct : List ℕ → Type 0
 AreDistinct text = (i j : ℕ) → i < j → j < length text → slice_index text i ≢ slice_index text j
 
--- 1 to 26 distinct lower-case letters
+-- the most letters of an alphabet that is written: as many as there are lower-case letters
+abbrev pub most_signs : ℕ
+most_signs = 26
+
+-- the most letters of the automata and the monoids of the program
+abbrev pub most_letters : ℕ
+most_letters = 60
+
+-- 1 to `most_signs` distinct lower-case letters
 pub record IsAlphabet (text : List ℕ) : Type 0 where
   pub some : 1 ≤ length text
-  pub few : length text ≤ 26
+  pub few : length text ≤ most_signs
   pub lower : All IsLowerCase text
   pub distinct : AreDistinct text

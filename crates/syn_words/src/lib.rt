@@ -2,11 +2,11 @@
 #![tactic(auto)]
 
 mod alphabet;
+mod laws;
 mod memory;
-#[cfg(test)]
-mod tests;
 mod word;
 
 pub use alphabet::{Alphabet, AlphabetFault};
+pub use laws::the_limits;
 pub use memory::Memory;
 pub use word::{Word, shortlex};

@@ -6,11 +6,11 @@ use Rattle.command_line.specs.declared.commands.Command.TheVariants as command
 use Rattle.command_line.specs.declared.request.Request.{Request}
 use Rattle.command_line.specs.Line.{IsAccepted}
 use Rattle.command_line.proofs.Lines.{one_request}
+use Rattle.std.specs.Io.KnownBytes.{Appends}
 use Rattle.report_outcome.specs.Reports.{Verdict}
-use Rattle.report_outcome.specs.Outcome.{IsAboutFile, Outcome, Ends, status_of}
-use Rattle.synmon_top.specs.Causes.{AreToldFor, HasVerdict, IsLacking, IsOrNoMemory, IsStatus}
-use Rattle.report_outcome.proofs.Verdicts.{ending_of, IsText}
-use Rattle.synmon_top.proofs.Deciding.{due_ends}
+use Rattle.report_outcome.specs.Outcome.{AreBytesFor, AreBytesOf, IsAboutFile, IsDue, Outcome, Ends, status_of, ending_of, IsText}
+use Rattle.synmon_top.specs.Causes.{AreToldFor, HasVerdict, IsAnswered, IsLacking, IsOrNoMemory, IsStatus}
+use Rattle.synmon_top.proofs.Deciding.{due_ends, out_due}
 use Rattle.report_outcome.specs.declared.ending.Ending.{Ending}
 use Rattle.report_outcome.specs.declared.ending.Ending.TheVariants as ending
 
@@ -95,13 +95,13 @@ not_lacking held words v has lacking =
     lacking_untold lacking.request.command held lacking.request has.bytes lacking.file lacking.lacks
     (subst (λ (r : Request). AreToldFor r.command held r has.bytes) same has.told)
 
--- a verdict that is due decides the status, where no device that it needs fails
+-- a verdict that is due is answered, where no device that it needs fails
 pub verdict_told : (held : Option NamedFiles) (words : List (List ℕ)) (v : Verdict) (e : Ending)
     (old new : Option (List ℕ)) (Risen Cut : Type 0)
     → Ends held words e old new → (e ≡ ending.CannotRead → Risen ⊎ IsLacking held words)
     → (e ≡ ending.CannotWrite → Cut)
     → HasVerdict held words v → ¬ Risen → (IsText v → ¬ Cut)
-    → IsOrNoMemory (status_of (ending_of v)) (status_of e)
+    → IsAnswered v (status_of e) old new
 verdict_told held words v e old new Risen Cut ends unread unwritten has calm steady =
     by (due_ends held words v e ends.out has ends.outcome)
   where
@@ -110,9 +110,50 @@ verdict_told held words v e old new Risen Cut ends unread unwritten has calm ste
     reading is (inr lacking) = not_lacking held words v has lacking
 
     by : (e ≡ ending_of v) ⊎ (e ≡ ending.CannotRead) ⊎ ((e ≡ ending.CannotWrite) × IsText v)
-        ⊎ (e ≡ ending.NoMemory)
-        → IsOrNoMemory (status_of (ending_of v)) (status_of e)
-    by (inl is) = inl (ap status_of is)
+        ⊎ (e ≡ ending.NoMemory) → IsAnswered v (status_of e) old new
+    by (inl is) =
+        let due = subst (λ x. Outcome held words x ends.out) is ends.outcome in
+        inl (
+          ap status_of is,
+          subst (Appends old new) (out_due held words v ends.out has due) ends.gained,
+        )
     by (inr (inl is)) = absurd (reading is (unread is))
     by (inr (inr (inl (is, text)))) = absurd (steady text (unwritten is))
     by (inr (inr (inr is))) = inr (ap status_of is)
+
+-- nothing is due of files that lack the name
+lacking_undue : (c : Command) (held : Option NamedFiles) (r : Request) (bytes : List ℕ)
+    → IsAboutFile c → Lacks held r.operand → ¬ AreBytesFor c held r bytes
+lacking_undue command.Generate held r bytes file lacks about = absurd file
+lacking_undue other None r bytes file lacks about = absurd lacks
+lacking_undue other (Some files) r bytes file lacks about =
+    let both : Some bytes ≡ None = sym about ∙ lacks in cc
+
+not_due : (held : Option NamedFiles) (words : List (List ℕ)) (v : Verdict)
+    → IsLacking held words → ¬ IsDue held words v
+not_due held words v lacking due =
+    let same = one_request words due.request lacking.request due.line lacking.line in
+    lacking_undue lacking.request.command held lacking.request due.bytes lacking.file lacking.lacks
+    (subst (λ (r : Request). AreBytesOf held r due.bytes) same due.about)
+
+-- files that lack the name leave 3 and 7 alone
+without_name : (held : Option NamedFiles) (words : List (List ℕ)) (e : Ending) (out : List ℕ)
+    → Outcome held words e out → IsLacking held words → IsOrNoMemory 3 (status_of e)
+without_name held words ending.Whole out h lacking = absurd (not_due held words _ lacking h)
+without_name held words ending.BadLine out h lacking =
+    absurd (h.0 (lacking.request, lacking.line))
+without_name held words ending.CannotRead out h lacking = inl refl
+without_name held words (ending.Refused at code) out h lacking =
+    absurd (not_due held words _ lacking h.0)
+without_name held words (ending.Stopped s) out h lacking =
+    absurd (not_due held words _ lacking h.0)
+without_name held words ending.Limited out h lacking = absurd (not_due held words _ lacking h)
+without_name held words ending.CannotWrite out (text, is, begins) lacking =
+    absurd (not_due held words _ lacking is)
+without_name held words ending.NoMemory out h lacking = inr refl
+
+pub lacking_told : (held : Option NamedFiles) (words : List (List ℕ)) (e : Ending)
+    (old new : Option (List ℕ)) → Ends held words e old new → IsLacking held words
+    → IsOrNoMemory 3 (status_of e)
+lacking_told held words e old new ends lacking =
+    without_name held words e ends.out ends.outcome lacking

@@ -1,17 +1,26 @@
 -- What the sections say is true, in the words of the headline.
-use Rattle.std.proofs.Common.{◌≡◌, ◌≢◌, ℕ, Bool, true, false, List, [], ◌∷◌, Option, refl, sym, ◌∙◌, subst, length, arith}
+use Rattle.std.proofs.Common.{◌≡◌, ◌≢◌, ◌≤◌, ◌↔◌, ℕ, Bool, true, false, IsTrue, List, [], ◌∷◌, Option, Some, None, inl, inr, refl, sym, ◌∙◌, subst, length, arith}
+use Rattle.std.proofs.lemmas.Bool.{cases_lt}
+use Rattle.language_theory.specs.Congruence.{Syntactic}
+use Rattle.language_theory.proofs.Congruences.{syntactic_congruence}
+use Rattle.language_theory.proofs.Representatives.{has_more_classes}
 use Rattle.std.specs.Io.KnownBytes.{Appends}
-use Rattle.star_free.specs.declared.answer.SfAnswer.{SfAnswer}
-use Rattle.star_free.specs.declared.answer.SfAnswer.TheVariants as star_free
+use Rattle.answers.specs.declared.powers.SfAnswer.{SfAnswer}
+use Rattle.answers.specs.declared.powers.SfAnswer.TheVariants as star_free
 use Rattle.star_free.specs.Answer.{IsStarFreeAnswer, Tells}
-use Rattle.syntactic_monoid.specs.SyntacticMonoid.{SyntacticMonoid}
-use Rattle.piecewise_testable.specs.declared.answer.PtAnswer.{PtAnswer}
-use Rattle.piecewise_testable.specs.declared.answer.PtAnswer.TheVariants as piecewise
+use Rattle.syntactic_monoid.specs.SyntacticMonoid.{SyntacticMonoid, IsSyntacticMonoid}
+use Rattle.answers.specs.declared.subwords.PtAnswer.{PtAnswer}
+use Rattle.answers.specs.declared.subwords.PtAnswer.TheVariants as piecewise
+use Rattle.answers.specs.declared.subwords.PtWitness.{PtWitness}
+use Rattle.answers.specs.declared.commuting.CWitness.{CWitness}
 use Rattle.piecewise_testable.specs.Answers.{IsPiecewiseAnswer}
+use Rattle.piecewise_testable.specs.Witness.{IsRTrivialAnswer}
+use Rattle.piecewise_testable.specs.Commuting.{IsCommutativeAnswer}
 use Rattle.piecewise_testable.proofs.ToldApart.{told_apart}
-use Rattle.locally_testable.specs.declared.answer.LtAnswer.{LtAnswer}
-use Rattle.locally_testable.specs.declared.answer.LtAnswer.TheVariants as locally
-use Rattle.locally_testable.specs.Answer.{Tells as TellsFactors}
+use Rattle.answers.specs.declared.factors.LtAnswer.{LtAnswer}
+use Rattle.answers.specs.declared.factors.LtAnswer.TheVariants as locally
+use Rattle.locally_testable.specs.Answer.{IsLocalAnswer, Tells as TellsFactors}
+use Rattle.green_relations.proofs.CellSizes.{egg_boxes_have_one_size}
 use Rattle.syn_outside.specs.NamedFiles.{NamedFiles}
 use Rattle.automaton_file.specs.FileText.{SourceText, IsSource, language_of}
 use Rattle.automaton_file.proofs.SourceLaws.{one_source, refusal_spells_none}
@@ -27,37 +36,67 @@ use Rattle.report_sections.specs.Sections.{Limits, limits_of, Said, joined, sect
 use Rattle.report_outcome.specs.Reports.{Verdict, said, stopped, refused, IsStop, IsVerdict, task_of}
 use Rattle.report_outcome.specs.Outcome.{AreBytesOf, IsDue, Outcome, Ends, status_of}
 use Rattle.synmon_top.specs.Causes.{AreToldFor}
-use Rattle.synmon_top.specs.Headline.{IsTrueOfPowers, IsTrueOfSubwords, IsTrueOfFactors, TellsTruth, TellTruth, Headline}
+use Rattle.synmon_top.specs.Headline.{HasMoreElementsThan, IsTrueOfPowers, IsTrueOfSubwords, IsTrueOfFactors, IsTrueOfRows, IsTrueOfOrder, TellsTruth, TellTruth, Headline}
 use Rattle.synmon_top.proofs.Deciding.{told_bytes}
 
 module _ (signs : List ℕ) (L : List ℕ → Type 0) where
-  powers_true : (m : SyntacticMonoid) (most : ℕ) (a : SfAnswer) (has : Bool)
-      → IsStarFreeAnswer (length signs) L m most has a → Tells (length signs) L a
-      → IsTrueOfPowers signs L a
-  powers_true m most (star_free.Yes l) has h t = t
-  powers_true m most (star_free.No l) has h t = h.never
-  powers_true m most star_free.TableLimit has h t = tt
-  powers_true m most star_free.Depth has h t = tt
-  powers_true m most star_free.Nodes has h t = tt
+  above_table : (m : SyntacticMonoid) → IsSyntacticMonoid (length signs) L m → (has : Bool) (most : ℕ)
+      → IsTrue has ↔ (length m.graphs.words ≤ most) → has ≡ false
+      → HasMoreElementsThan signs L most
+  above_table m is has most both none = elim (cases_lt most (length m.graphs.words)) [
+    | inl more ↦ has_more_classes (length signs) (Syntactic (length signs) L) m.graphs.words
+        is.graphs.words (syntactic_congruence (length signs) L).equivalence most more
+    | inr few ↦ let bad : false ≡ true = sym none ∙ both.1 (omega (arith, few)) in cc
+  ]
 
-  subwords_true : (most last : ℕ) (a : PtAnswer)
-      → IsPiecewiseAnswer (length signs) L most last a → IsTrueOfSubwords signs L a
-  subwords_true most last (piecewise.Yes n) h =
-      (h.1.2, λ m l. (h.1.0.before m (omega arith) l).fails)
-  subwords_true most last (piecewise.No w) h =
-      λ n. (told_apart (length signs) L w h.witness n).apart
-  subwords_true most last (piecewise.Wide n) h = tt
-  subwords_true most last (piecewise.Pairs n) h = tt
-  subwords_true most last (piecewise.NoneTo n) h = tt
+  powers_true : (limits : Limits) (m : SyntacticMonoid) (a : SfAnswer) (has : Bool)
+      → IsSyntacticMonoid (length signs) L m → IsTrue has ↔ (length m.graphs.words ≤ limits.table)
+      → IsStarFreeAnswer (length signs) L m limits.nodes has a → Tells (length signs) L a
+      → IsTrueOfPowers signs L limits a
+  powers_true limits m (star_free.Yes l) has is table h t = t
+  powers_true limits m (star_free.No l) has is table h t = (h.never, h.first)
+  powers_true limits m star_free.TableLimit has is table h t =
+      (above_table m is has limits.table table h.1, t)
+  powers_true limits m star_free.Depth has is table h t = ((m, is, h.2), t)
+  powers_true limits m star_free.Nodes has is table h t = ((m, is, h.2), t)
 
-  factors_true : (a : LtAnswer) → TellsFactors (length signs) L a → IsTrueOfFactors signs L a
-  factors_true (locally.Yes n) h = h
-  factors_true (locally.No w) h = h
-  factors_true locally.TableLimit h = tt
-  factors_true locally.WorkLimit h = tt
-  factors_true (locally.Wide n) h = tt
-  factors_true (locally.Pairs n) h = tt
-  factors_true (locally.NoneTo n) h = tt
+  subwords_true : (limits : Limits) (a : PtAnswer)
+      → IsPiecewiseAnswer (length signs) L limits.pairs limits.level a
+      → IsTrueOfSubwords signs L limits a
+  subwords_true limits (piecewise.Yes n) h =
+      (h.1.2, λ m f l. (h.1.0.before m f l).fails)
+  subwords_true limits (piecewise.No w) h = λ n. told_apart (length signs) L w h.witness n
+  subwords_true limits (piecewise.Wide n) h = (h.1.1, λ m f l. (h.1.0.before m f l).fails)
+  subwords_true limits (piecewise.Pairs n) h =
+      (h.1.1.many, λ m f l. (h.1.0.before m f l).fails)
+  subwords_true limits (piecewise.NoneTo n) h = (h.1.0, λ m f l. (h.1.1 m f l).fails)
+
+  factors_true : (limits : Limits) (m : SyntacticMonoid) (a : LtAnswer) (has : Bool)
+      → IsSyntacticMonoid (length signs) L m → IsTrue has ↔ (length m.graphs.words ≤ limits.table)
+      → IsLocalAnswer (length signs) L m.graphs.words has limits.level limits.pairs a
+      → TellsFactors (length signs) L a → IsTrueOfFactors signs L limits a
+  factors_true limits m (locally.Yes n) has is table h t = t
+  factors_true limits m (locally.No w) has is table h t = t
+  factors_true limits m locally.TableLimit has is table h t =
+      above_table m is has limits.table table h
+  factors_true limits m locally.WorkLimit has is table h t =
+      (m.graphs.words, is.graphs.words, h.1)
+  factors_true limits m (locally.Wide n) has is table h t =
+      (h.1.search.1, λ i f l. (h.1.search.0.before i f l).fails)
+  factors_true limits m (locally.Pairs n) has is table h t =
+      (h.1.search.1.many, λ i f l. (h.1.search.0.before i f l).fails)
+  factors_true limits m (locally.NoneTo n) has is table h t =
+      (h.1.search.0, λ i f l. (h.1.search.1 i f l).fails)
+
+  rows_true : (a : Option PtWitness) → IsRTrivialAnswer (length signs) L a
+      → IsTrueOfRows signs L a
+  rows_true None h = h
+  rows_true (Some w) h = λ n. told_apart (length signs) L w h.1 n
+
+  order_true : (a : Option CWitness) → IsCommutativeAnswer (length signs) L a
+      → IsTrueOfOrder signs L a
+  order_true None h = h
+  order_true (Some w) h = (h.context.behind.holds, h.first_in)
 
   section_true : (s : Section) (limits : Limits) (one : Said) → IsSection s limits signs L one
       → TellsTruth signs L s limits one.text
@@ -68,6 +107,8 @@ module _ (signs : List ℕ) (L : List ℕ → Type 0) where
     rules = h.rules;
     printed = h.text;
     classes = h.syntactic.graphs.words;
+    graphs = h.syntactic;
+    presentation = h.presentation;
   }
   section_true section.Green limits one h = record {
     words = h.monoid.graphs.words;
@@ -75,21 +116,63 @@ module _ (signs : List ℕ) (L : List ℕ → Type 0) where
     boxes = h.boxes;
     printed = h.text;
     elements = h.syntactic.graphs.words;
-    classes = h.diagram.diagram;
+    classes = h.diagram;
+    sizes = egg_boxes_have_one_size (length signs) (Syntactic (length signs) L)
+        h.monoid.graphs.words (syntactic_congruence (length signs) L) h.syntactic.graphs.words
+        h.boxes h.diagram.diagram;
   }
-  section_true section.StarFree limits one h =
-      (h.answer, powers_true h.monoid limits.nodes h.answer h.has_table h.answered h.tells, h.text)
+  section_true section.StarFree limits one h = (
+    h.answer,
+    powers_true limits h.monoid h.answer h.has_table h.syntactic h.table h.answered h.tells,
+    h.text,
+  )
   section_true section.Piecewise limits one h =
-      (h.answer, subwords_true limits.pairs limits.level h.answer h.answered, h.text)
-  section_true section.Local limits one h = (h.answer, factors_true h.answer h.tells, h.text)
-  section_true section.RTrivial limits one h = tt
-  section_true section.Commutative limits one h = tt
-  section_true section.Table limits one h = tt
-  section_true section.Summary limits one h = tt
+      (h.answer, subwords_true limits h.answer h.answered, h.text)
+  section_true section.Local limits one h = (
+    h.answer,
+    factors_true limits h.monoid h.answer h.has_table h.syntactic h.table h.answered h.tells,
+    h.text,
+  )
+  section_true section.RTrivial limits one h = (h.answer, rows_true h.answer h.answered, h.text)
+  section_true section.Commutative limits one h =
+      (h.answer, order_true h.answer h.answered, h.text)
+  section_true section.Table limits one h = record {
+    words = h.monoid.graphs.words;
+    table = h.table;
+    printed = h.text;
+    elements = h.syntactic.graphs.words;
+    products = h.products;
+  }
+  section_true section.Summary limits one h = record {
+    counts = h.counts;
+    counted = h.counted;
+    star_free = h.star_free_said.answer;
+    powers = powers_true limits h.star_free_said.monoid h.star_free_said.answer
+        h.star_free_said.has_table h.star_free_said.syntactic h.star_free_said.table
+        h.star_free_said.answered h.star_free_said.tells;
+    piecewise = h.piecewise_said.answer;
+    subwords = subwords_true limits h.piecewise_said.answer h.piecewise_said.answered;
+    local = h.local_said.answer;
+    factors = factors_true limits h.local_said.monoid h.local_said.answer h.local_said.has_table
+        h.local_said.syntactic h.local_said.table h.local_said.answered h.local_said.tells;
+    r_trivial = h.r_trivial_said.answer;
+    rows = rows_true h.r_trivial_said.answer h.r_trivial_said.answered;
+    commutative = h.commutative_said.answer;
+    order = order_true h.commutative_said.answer h.commutative_said.answered;
+    printed = rw (
+      h.text,
+      h.star_free_said.text,
+      h.piecewise_said.text,
+      h.local_said.text,
+      h.r_trivial_said.text,
+      h.commutative_said.text,
+    ) refl;
+  }
 
   sections_true : (sections : List Section) (limits : Limits) (all : List Said)
       → AreSections sections limits signs L all → TellTruth signs L sections limits all
-  sections_true [] limits all h = tt
+  sections_true [] limits [] h = tt
+  sections_true [] limits (x ∷ xs) h = h
   sections_true (s ∷ ss) limits [] h = absurd h
   sections_true (s ∷ ss) limits (x ∷ xs) h =
       (section_true s limits x h.0, sections_true ss limits xs h.1)

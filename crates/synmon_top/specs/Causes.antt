@@ -1,5 +1,6 @@
 -- When a run answers with each status.
 use Rattle.std.specs.Prelude.{◌≡◌, ◌⊎◌, ℕ, List, Option, Some, None}
+use Rattle.std.specs.Io.KnownBytes.{Appends}
 use Rattle.syn_outside.specs.NamedFiles.{NamedFiles, bytes_of, Lacks}
 use Rattle.generated_file.specs.Generated.{generated_text}
 use Rattle.command_line.specs.declared.commands.Command.{Command}
@@ -7,7 +8,7 @@ use Rattle.command_line.specs.declared.commands.Command.TheVariants as command
 use Rattle.command_line.specs.declared.request.Request.{Request}
 use Rattle.command_line.specs.Line.{IsLine}
 use Rattle.report_outcome.specs.Reports.{Verdict, IsVerdict, task_of}
-use Rattle.report_outcome.specs.Outcome.{IsAboutFile}
+use Rattle.report_outcome.specs.Outcome.{IsAboutFile, status_of, ending_of, out_of}
 
 -- The bytes that a request is about are told: those of a generated file always are, and those of the
 -- operand's name where the files are told.
@@ -41,6 +42,12 @@ pub record AsksToGenerate (words : List (List ℕ)) : Type 0 where
 -- this status, or 7 for want of memory, which may come at any time
 abbrev pub IsOrNoMemory : ℕ → ℕ → Type 0
 IsOrNoMemory status result = (result ≡ status) ⊎ (result ≡ 7)
+
+-- a verdict is answered: with the status of its ending, and its text on `out`, which is nothing where
+-- it has none; or with 7, for want of memory
+abbrev pub IsAnswered : Verdict → ℕ → (old new : Option (List ℕ)) → Type 0
+IsAnswered verdict status old new =
+    ((status ≡ status_of (ending_of verdict)) × Appends old new (out_of verdict)) ⊎ (status ≡ 7)
 
 -- the statuses that a run answers with
 abbrev pub IsStatus : ℕ → Type 0

@@ -3,10 +3,8 @@
 
 mod laws;
 mod running;
-#[cfg(test)]
-mod tests;
-#[cfg(test)]
-mod worker_tests;
 
+pub use command_line::{Command, LineFault, Name, Request, read_line};
+pub use generated_file::generate_text;
 pub use laws::{the_outcome_is_unique, workers_change_no_outcome};
 pub use running::run;

@@ -1,13 +1,12 @@
 //! A run of the program, from its words to what it wrote.
-ghost use Rattle.std.specs.Prelude.{◌≡◌, ◌≢◌, ◌⊎◌, ◌≤◌, ℕ, List, true, false, map, string_bytes, IsTrue};
+ghost use Rattle.std.specs.Prelude.{◌≡◌, ◌≢◌, ◌⊎◌, ◌≤◌, false, map, string_bytes, IsTrue};
 ghost use Rattle.syn_outside.specs.Counts.{Rose};
 ghost use Rattle.command_line.specs.Line.{IsAccepted, IsInRange};
 ghost use Rattle.generated_file.specs.Generated.{generated_text};
-ghost use Rattle.report_outcome.specs.Reports.{said, stopped, refused};
-ghost use Rattle.synmon_top.specs.Causes.{AsksToGenerate, HasVerdict, IsLacking, IsOrNoMemory, IsStatus};
-ghost use Rattle.report_outcome.specs.Outcome.{Ends, EndsOn, IsAboutFile, Runs, ending_of_fault};
+ghost use Rattle.report_outcome.specs.Reports.{Verdict};
+ghost use Rattle.synmon_top.specs.Causes.{AsksToGenerate, HasVerdict, IsAnswered, IsLacking, IsOrNoMemory, IsStatus};
+ghost use Rattle.report_outcome.specs.Outcome.{Ends, EndsOn, IsAboutFile, IsText, Runs, ending_of_fault};
 ghost use Rattle.synmon_top.specs.Headline.{Headline};
-ghost use Rattle.report_outcome.specs.declared.ending.Stop.{Stop};
 
 use command_line::{Command, LineFault, Request, read_line};
 use generated_file::generate_text;
@@ -52,21 +51,14 @@ pub fn run<R: Threads + Sync, F: Files, O: Sink, E: Sink, G: Gate + Sync>(
         × (F.faults files.new ≡ F.faults files.old) }
     ensures cannot_read { result ≡ 3 → Rose (F.faults files.old) (F.faults files.new)
         ⊎ IsLacking (F.held files.old) (map string_bytes words.now) }
-    ensures refused { (at code : ℕ) → HasVerdict (F.held files.old) (map string_bytes words.now)
-        (refused at code) → (¬ Rose (F.faults files.old) (F.faults files.new))
-        → IsOrNoMemory 4 result }
-    ensures stopped { (stop : Stop) → HasVerdict (F.held files.old) (map string_bytes words.now)
-        (stopped stop) → (¬ Rose (F.faults files.old) (F.faults files.new))
-        → IsOrNoMemory 5 result }
-    ensures limited { (text : List ℕ) → HasVerdict (F.held files.old) (map string_bytes words.now)
-        (said (record { text = text; limited = true }))
+    ensures lacking { IsLacking (F.held files.old) (map string_bytes words.now)
+        → IsOrNoMemory 3 result }
+    ensures decided { (verdict : Verdict)
+        → HasVerdict (F.held files.old) (map string_bytes words.now) verdict
         → (¬ Rose (F.faults files.old) (F.faults files.new))
-        → (¬ Rose (O.faults out.old) (O.faults out.new)) → IsOrNoMemory 5 result }
+        → (IsText verdict → ¬ Rose (O.faults out.old) (O.faults out.new))
+        → IsAnswered verdict result (O.written out.old) (O.written out.new) }
     ensures cannot_write { result ≡ 6 → Rose (O.faults out.old) (O.faults out.new) }
-    ensures complete { (text : List ℕ) → HasVerdict (F.held files.old) (map string_bytes words.now)
-        (said (record { text = text; limited = false }))
-        → (¬ Rose (F.faults files.old) (F.faults files.new))
-        → (¬ Rose (O.faults out.old) (O.faults out.new)) → IsOrNoMemory 0 result }
     ensures held { F.held files.new ≡ F.held files.old }
     ensures files_count { F.faults files.old ≤ F.faults files.new }
     ensures out_count { O.faults out.old ≤ O.faults out.new }

@@ -5,21 +5,12 @@ use Rattle.language_theory.specs.Words.{word_at}
 use Rattle.language_theory.specs.Automaton.{is_marked}
 use Rattle.language_theory.specs.Congruence.{Syntactic}
 use Rattle.language_theory.specs.Nerode.{MinimalAutomaton, IsMinimal, accepted}
-use Rattle.language_theory.specs.ShortlexGraph.{Graph, target, walk, IsFirst}
+use Rattle.language_theory.specs.ShortlexGraph.{Graph, walk, IsFirst}
+use Rattle.cayley_tables.specs.declared.limits.TheConstants.{MOST_ELEMENTS}
 use Rattle.cayley_tables.specs.CayleyGraphs.{CayleyGraphs, AreGraphsOf}
-use Rattle.froidure_pin.specs.Maps.{Maps, image}
-use Rattle.froidure_pin.specs.Rows.{row_at}
+use Rattle.image_rows.specs.Rows.{row_at}
 use Rattle.syntactic_monoid.specs.SyntacticMonoid.{SyntacticMonoid}
-
--- the first c letters take each point where they take that node
-pub record AreStepsBelow (g : Graph) (c : ℕ) (m : Maps) : Type 0 where
-  pub points : m.points ≡ g.size
-  pub letters : m.letters ≡ g.letters
-  pub each : (p a : ℕ) → p < g.size → a < c → image m p a ≡ target g p a
-
--- the maps of the nodes by all letters
-abbrev pub AreSteps : Graph → Maps → Type 0
-AreSteps g m = AreStepsBelow g g.letters m
+use Rattle.syn_words.specs.Alphabet.{most_letters}
 
 -- the state to which the word of element i takes the state p, and the state to which it leads
 abbrev pub taken : List (List ℕ) → ℕ → ℕ → ℕ
@@ -31,7 +22,7 @@ state_of rows i = taken rows i 0
 -- each row has a state for each of n states
 pub record AreStateRows (n : ℕ) (rows : List (List ℕ)) : Type 0 where
   pub some : 1 ≤ n
-  pub few : length rows ≤ 50000
+  pub few : length rows ≤ MOST_ELEMENTS
   pub long : (i : ℕ) → i < length rows → length (row_at rows i) ≡ n
   pub within : (i p : ℕ) → i < length rows → p < n → taken rows i p < n
 
@@ -65,7 +56,7 @@ IsReturn g (Some p) = IsFirst g.targets 0 p
 pub record IsActionOn (d : MinimalAutomaton) (c : CayleyGraphs) (rows : List (List ℕ))
     (finals : List Bool) : Type 0 where
   pub some_letters : 1 ≤ d.graph.letters
-  pub few_letters : d.graph.letters ≤ 60
+  pub few_letters : d.graph.letters ≤ most_letters
   pub minimal : IsMinimal d.graph.letters (accepted d) d
   pub graphs : AreGraphsOf d.graph.letters (Syntactic d.graph.letters (accepted d)) c
   pub same_finals : finals ≡ d.finals

@@ -1,3 +1,2 @@
 pub mod SyntacticMonoid
 pub mod Action
-pub mod Faults

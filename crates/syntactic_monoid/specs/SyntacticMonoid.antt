@@ -7,6 +7,7 @@ use Rattle.language_theory.specs.Congruence.{Syntactic}
 use Rattle.language_theory.specs.Languages.{IsLeastWord}
 use Rattle.language_theory.specs.ShortlexGraph.{node, LeadsNonempty}
 use Rattle.cayley_tables.specs.CayleyGraphs.{CayleyGraphs, AreGraphsOf}
+use Rattle.syn_words.specs.Alphabet.{most_letters}
 
 -- the elements with both Cayley graphs, and for each whether its words are in the language
 pub record SyntacticMonoid : Type 0 where
@@ -27,7 +28,7 @@ pub record IsSyntacticMonoid (k : ℕ) (L : List ℕ → Type 0) (m : SyntacticM
 -- the syntactic monoid of the language that it recognises, over 1 to 60 letters
 pub record IsSyntactic (m : SyntacticMonoid) : Type 0 where
   pub some_letters : 1 ≤ m.graphs.right.letters
-  pub few_letters : m.graphs.right.letters ≤ 60
+  pub few_letters : m.graphs.right.letters ≤ most_letters
   pub monoid : IsSyntacticMonoid m.graphs.right.letters (recognised m) m
 
 -- the element i is that of some word that is not empty: it is in the syntactic semigroup

@@ -3,7 +3,7 @@ ghost use Rattle.std.specs.Prelude.{◌≡◌, ◌<◌, ◌≤◌, ◌↔◌, �
 ghost use Rattle.language_theory.specs.Automaton.{is_marked};
 ghost use Rattle.syntactic_monoid.specs.Action.{AreStateRows, AreMarksOfStates, Part, TellApart, IsFirstBelow, taken, state_of};
 
-use froidure_pin::Rows;
+use image_rows::Rows;
 use std::alloc::Global;
 use syn_words::Memory;
 

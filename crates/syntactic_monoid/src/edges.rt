@@ -4,7 +4,6 @@ ghost use Rattle.language_theory.specs.Words.{word_at};
 ghost use Rattle.syntactic_monoid.specs.Action.{IsReturn};
 
 use cayley_tables::Cayley;
-use std::alloc::Global;
 use syn_words::{Memory, Word};
 
 /// The place of the first edge of the right graph that leads to element 0, if there is one. The edge of element i with
@@ -22,14 +21,14 @@ pub(crate) fn first_return(cayley: &Cayley) -> Option<u32>
 }
 
 /// The word of the element that an edge leaves, with the letter of the edge behind it. Condition: the place is in range.
-pub(crate) fn edge_word(alloc: Global, cayley: &Cayley, place: u32) -> Result<Word, Memory>
+pub(crate) fn edge_word(cayley: &Cayley, place: u32) -> Result<Word, Memory>
     requires { place < length cayley.now.words * cayley.now.right.letters }
     ensures { IfOk result (λ w. w
         ≡ word_at cayley.now.words (place / cayley.now.right.letters)
         ++ (place % cayley.now.right.letters) ∷ []) }
 {
     let letters = cayley.letters();
-    let mut word = cayley.word(alloc, place / letters)?;
+    let mut word = cayley.word(place / letters)?;
     word.push((place % letters) as u8)?;
     Ok(word)
 }

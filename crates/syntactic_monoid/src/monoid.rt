@@ -7,11 +7,12 @@ ghost use Rattle.language_theory.specs.Nerode.{MinimalAutomaton};
 ghost use Rattle.monoid_theory.specs.Separation.{IsSeparation};
 ghost use Rattle.cayley_tables.specs.CayleyGraphs.{AreCayleyGraphs};
 ghost use Rattle.syntactic_monoid.specs.SyntacticMonoid.{IsSyntactic, IsInSemigroup, IsNonemptyWordOf, recognised};
-ghost use Rattle.syntactic_monoid.specs.Action.{IsActionOn, AreMarksOfStates, IsReturn};
+ghost use Rattle.syntactic_monoid.specs.Action.{AreStateRows, IsActionOn, AreMarksOfStates, IsReturn};
 
 use crate::action::Action;
 use crate::edges::{edge_word, first_return};
 use cayley_tables::Cayley;
+use image_rows::Rows;
 use std::alloc::Global;
 use std::marker::Model;
 use syn_words::{Memory, Word};
@@ -48,13 +49,22 @@ impl Model for Syntactic {
 }
 
 impl Syntactic {
-    /// The monoid with these graphs. Condition: its elements act on the states of a minimal automaton.
-    pub(crate) fn new(alloc: Global, cayley: Cayley, action: Action) -> Result<Syntactic, Memory>
-        requires { (d : MinimalAutomaton) × IsActionOn d cayley action.rows action.finals.items }
+    /// The monoid with these graphs, whose elements take the states of a minimal automaton where these rows say; state 0
+    /// is the initial one. Conditions: each row has a state for each state, and these are the graphs of the syntactic
+    /// monoid of the automaton's language, the rows in which its elements take the states, and its final states.
+    pub fn new(
+        alloc: Global,
+        cayley: Cayley,
+        rows: Rows,
+        finals: Vec<bool>,
+    ) -> Result<Syntactic, Memory>
+        requires states { AreStateRows (length finals.items) rows }
+        requires acts { (d : MinimalAutomaton) × IsActionOn d cayley rows finals.items }
         ensures graphs { IfOk result (λ m. m.graphs ≡ cayley) }
         ensures marks { IfOk result
-            (λ m. AreMarksOfStates action.rows action.finals.items m.accepted) }
+            (λ m. AreMarksOfStates rows finals.items m.accepted) }
     {
+        let action = Action { rows, finals };
         let accepted = action.marks(alloc)?;
         let returns = first_return(&cayley);
         Ok(Syntactic {
@@ -90,20 +100,20 @@ impl Syntactic {
     }
 
     /// The least word of an element that is not empty. Conditions: the element is in range, and has such a word.
-    pub fn nonempty_word(&self, alloc: Global, i: u32) -> Result<Word, Memory>
+    pub fn nonempty_word(&self, i: u32) -> Result<Word, Memory>
         requires element { i < length self.now.graphs.words }
         requires some { IsInSemigroup self.now i }
         ensures { IfOk result (λ w. IsNonemptyWordOf self.now i w) }
     {
         match self.returns {
-            Some(place) if i == 0 => edge_word(alloc, &self.cayley, place),
-            _ => self.cayley.word(alloc, i),
+            Some(place) if i == 0 => edge_word(&self.cayley, place),
+            _ => self.cayley.word(i),
         }
     }
 
     /// The least separating context of two words, or none where they are congruent. Condition: the letters of both are
     /// in range. It takes memory for no more than the two words of the context.
-    pub fn separate(&self, alloc: Global, s: &Word, t: &Word) -> Result<Option<Pair>, Memory>
+    pub fn separate(&self, s: &Word, t: &Word) -> Result<Option<Pair>, Memory>
         requires one { Over self.now.graphs.right.letters s.now }
         requires other { Over self.now.graphs.right.letters t.now }
         ensures { IfOk result (λ found. MatchOption found
@@ -121,8 +131,8 @@ impl Syntactic {
         let p = self.action.image(i, state);
         let q = self.action.image(j, state);
         let behind = self.action.first_telling_apart(p, q);
-        let u = self.cayley.word(alloc, before)?;
-        let v = self.cayley.word(alloc, behind)?;
+        let u = self.cayley.word(before)?;
+        let v = self.cayley.word(behind)?;
         Ok(Some(Pair { u, v }))
     }
 }

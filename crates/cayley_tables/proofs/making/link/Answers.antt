@@ -12,7 +12,7 @@ returns-then-target-len-clause-linking c =
 
 pub returns-then-element-eq0-clause-linking : goal.returns-then-element-eq0-clause-linking
 returns-then-element-eq0-clause-linking c =
-    rw c.in_ok-push.ensures
+    rw c.in_ok-push.ensures.ok
     (link_letter (right_graph c.args.size c.args.letters c.args.right.now)
     (c.args.element * c.args.letters + c.args.letter) c.args.links.now c.requires.linking
     c.args.element c.args.letter refl c.requires.element c.requires.letter c.requires.linked
@@ -20,7 +20,7 @@ returns-then-element-eq0-clause-linking c =
 
 pub returns-clause-linking : goal.returns-clause-linking
 returns-clause-linking c =
-    rw (c.in_ok-push-2.ensures, c.suffix.ensures, c.first-first.ensures)
+    rw (c.in_ok-push-2.ensures.ok, c.suffix.ensures, c.first-first.ensures)
     (link_longer (right_graph c.args.size c.args.letters c.args.right.now)
     (c.args.element * c.args.letters + c.args.letter) c.args.links.now c.requires.linking
     c.args.element c.args.letter refl c.requires.element c.requires.letter c.requires.linked

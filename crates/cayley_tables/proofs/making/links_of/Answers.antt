@@ -15,7 +15,7 @@ loop-element-init c =
     subst (λ (s : ℕ). IsMonoidGraph (right_graph s c.args.letters c.args.right.now) q.words)
     size q.monoid in
     let none : 0 ≡ 0 * c.args.letters = omega arith in
-    let items = c.in_ok-push.ensures
+    let items = c.in_ok-push.ensures.ok
     ∙ ap (λ (l : LinkLists). with_link l 0 0 0 0) c.new-links.ensures in
     let first : LinkLists =
     record { prefix = 0 ∷ []; last = 0 ∷ []; suffix = 0 ∷ []; first = 0 ∷ [] } in

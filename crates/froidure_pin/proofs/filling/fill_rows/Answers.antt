@@ -2,7 +2,7 @@ use Rattle.std.proofs.Common.{◌≡◌, ◌+◌, ◌-◌, ℕ, List, Some, subs
 use Rattle.std.specs.Prelude.{slice_get, slice_index_or}
 use Rattle.std.proofs.lemmas.Option.{slice_get-get_or}
 use Rattle.froidure_pin.specs.declared.batch.Job.{Job}
-use Rattle.froidure_pin.specs.Rows.{row_at}
+use Rattle.image_rows.specs.Rows.{row_at}
 use Rattle.froidure_pin.specs.Batches.{IsJob, IsLetterRow}
 use Rattle.froidure_pin.proofs.Made.{made_put, made_all}
 use Rattle.froidure_pin.proofs.filling.fill_rows.Goals as goal

@@ -1,4 +1,5 @@
-use Rattle.locally_testable.proofs.OneAnswer.{one_local_answer, one_witness}
+use Rattle.locally_testable.proofs.OneAnswer.{one_local_answer}
+use Rattle.local_submonoids.proofs.OneWitness.{one_witness}
 use Rattle.locally_testable.proofs.laws.the_answer_is_unique.Goals as goal
 
 pub returns-clause-answer : goal.returns-clause-answer

@@ -1,9 +1,9 @@
 use Rattle.std.proofs.Common.{sym, subst}
 use Rattle.std.specs.Prelude.{Option}
 use Rattle.syntactic_monoid.specs.SyntacticMonoid.{recognised}
-use Rattle.piecewise_testable.specs.declared.witness.Side.TheVariants.{Right, Left}
-use Rattle.piecewise_testable.specs.declared.witness.PtWitness.{PtWitness}
-use Rattle.piecewise_testable.specs.declared.answer.PtAnswer.TheVariants as answer
+use Rattle.answers.specs.declared.subwords.Side.TheVariants.{Right, Left}
+use Rattle.answers.specs.declared.subwords.PtWitness.{PtWitness}
+use Rattle.answers.specs.declared.subwords.PtAnswer.TheVariants as answer
 use Rattle.piecewise_testable.specs.Witness.{IsAnswerOn}
 use Rattle.piecewise_testable.specs.Answers.{IsPiecewiseAnswer}
 use Rattle.piecewise_testable.proofs.Answering.{refused_on_right, refused_on_left, answer_of_search, always_apart}

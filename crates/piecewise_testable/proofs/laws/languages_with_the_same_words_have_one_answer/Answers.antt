@@ -1,4 +1,4 @@
-use Rattle.piecewise_testable.specs.declared.witness.Side.TheVariants.{Right}
+use Rattle.answers.specs.declared.subwords.Side.TheVariants.{Right}
 use Rattle.piecewise_testable.proofs.Agreeing.{answer_on_agrees, commutative_answer_agrees}
 use Rattle.piecewise_testable.proofs.Answering.{piecewise_answer_agrees}
 use Rattle.piecewise_testable.proofs.laws.languages_with_the_same_words_have_one_answer.Goals as goal

@@ -1,5 +1,5 @@
 use Rattle.syntactic_monoid.specs.SyntacticMonoid.{recognised}
-use Rattle.piecewise_testable.specs.declared.witness.Side.TheVariants.{Right}
+use Rattle.answers.specs.declared.subwords.Side.TheVariants.{Right}
 use Rattle.piecewise_testable.proofs.ToldApart.{found_apart}
 use Rattle.piecewise_testable.proofs.trivial.r_trivial.Goals as goal
 

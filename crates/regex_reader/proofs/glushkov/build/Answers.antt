@@ -21,4 +21,5 @@ returns c =
     c.args.part.now.last c.args.marks.now c.args.positions.now
     c.set_initial.new.self c.set_final_if.new.nfa c.set_finals.new.nfa c.add_letters.new.nfa
     (c.set_initial.ensures ∙ ap (λ (m : Automaton). with_initial m 0) c.in_ok-nfa.ensures.bare)
-    empty last early refl c.requires.letters
+    empty last early refl c.requires.letters c.states-size.ensures.sized
+    c.states-size.ensures.ordered

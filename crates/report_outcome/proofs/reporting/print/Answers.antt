@@ -1,5 +1,5 @@
 use Rattle.std.proofs.Common.{ap}
-use Rattle.report_text.specs.Saying.{Pending}
+use Rattle.report_buffer.specs.Saying.{Pending}
 use Rattle.report_outcome.proofs.Outcomes.{prefix_given, on_err}
 use Rattle.report_outcome.proofs.reporting.print.Goals as goal
 

@@ -2,7 +2,7 @@ use Rattle.std.proofs.Common.{◌∙◌, List, refl, sym, ap, subst}
 use Rattle.std.specs.Io.KnownBytes.{Appends}
 use Rattle.report_sections.specs.Answers.{Values, values_of, said_of_all}
 use Rattle.report_outcome.specs.Outcome.{IsGivenPrefix}
-use Rattle.report_sections.specs.declared.answers.Answer.{Answer}
+use Rattle.report_sections.specs.declared.answering.Answer.{Answer}
 use Rattle.report_outcome.proofs.Outcomes.{ends_whole, ends_limited, ends_cut, ends_short, ends_without_memory, report_of_answers}
 use Rattle.report_outcome.proofs.reporting.write_sections.Goals as goal
 

@@ -1,5 +1,5 @@
 use Rattle.std.proofs.Common.{◌≡◌, []}
-use Rattle.report_text.specs.Saying.{channel, AreLinesSaid}
+use Rattle.report_buffer.specs.Saying.{channel, AreLinesSaid}
 use Rattle.report_text.specs.AutomatonSection.{automaton_head, state_text}
 use Rattle.report_text.proofs.automaton_section.say_automaton.Given as goal
 

@@ -1,6 +1,6 @@
 use Rattle.std.specs.Prelude.{codes}
 use Rattle.report_text.specs.CommutativeSection.{swap_text}
-use Rattle.report_text.proofs.Pieces.{two_pieces}
+use Rattle.report_buffer.proofs.Pieces.{two_pieces}
 use Rattle.report_text.proofs.commutative_section.push_commutative.Goals as goal
 
 pub returns-in_ok-push_bytes-in-Some : goal.returns-in_ok-push_bytes-in-Some

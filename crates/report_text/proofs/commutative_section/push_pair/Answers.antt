@@ -1,6 +1,6 @@
 use Rattle.std.specs.Prelude.{codes}
-use Rattle.report_text.specs.Texts.{letter_text}
-use Rattle.report_text.proofs.Pieces.{three_pieces}
+use Rattle.report_buffer.specs.Texts.{letter_text}
+use Rattle.report_buffer.proofs.Pieces.{three_pieces}
 use Rattle.report_text.proofs.commutative_section.push_pair.Goals as goal
 
 pub returns : goal.returns

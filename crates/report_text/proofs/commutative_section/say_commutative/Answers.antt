@@ -1,5 +1,5 @@
 use Rattle.report_text.specs.CommutativeSection.{commutative_text}
-use Rattle.report_text.proofs.Channels.{rendered-alone}
+use Rattle.report_buffer.proofs.Channels.{rendered-alone}
 use Rattle.report_text.proofs.commutative_section.say_commutative.Goals as goal
 
 pub returns : goal.returns

@@ -1,7 +1,7 @@
 use Rattle.std.proofs.Common.{◌++◌, ap, ◌∙◌, length}
 use Rattle.std.specs.Prelude.{codes}
 use Rattle.std.specs.Fmt.{decimal}
-use Rattle.report_text.proofs.Pieces.{three_pieces}
+use Rattle.report_buffer.proofs.Pieces.{three_pieces}
 use Rattle.report_text.proofs.green_section.push_boxes_head.Goals as goal
 
 pub returns : goal.returns

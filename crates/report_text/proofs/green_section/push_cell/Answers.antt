@@ -1,8 +1,8 @@
 use Rattle.std.proofs.Common.{◌≡◌, ◌++◌, ap, ◌∙◌, length, slice_index, arith}
 use Rattle.std.specs.Prelude.{codes}
-use Rattle.report_text.specs.Texts.{separated}
+use Rattle.report_buffer.specs.Texts.{separated}
 use Rattle.report_text.specs.GreenSection.{marked, member_text}
-use Rattle.report_text.proofs.Separated.{separated_next}
+use Rattle.report_buffer.proofs.Separated.{separated_next}
 use Rattle.report_text.proofs.green_section.push_cell.Goals as goal
 
 pub loop-place-preserved : goal.loop-place-preserved

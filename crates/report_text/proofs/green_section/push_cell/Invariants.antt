@@ -1,6 +1,6 @@
 use Rattle.std.proofs.Common.{◌≡◌, ◌++◌, slice_index}
 use Rattle.std.specs.Prelude.{codes}
-use Rattle.report_text.specs.Texts.{separated}
+use Rattle.report_buffer.specs.Texts.{separated}
 use Rattle.report_text.specs.GreenSection.{marked, member_text}
 use Rattle.report_text.proofs.green_section.push_cell.Given as goal
 

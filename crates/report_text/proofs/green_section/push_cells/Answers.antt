@@ -2,7 +2,7 @@ use Rattle.std.proofs.Common.{◌++◌, ap, ◌∙◌}
 use Rattle.std.specs.Prelude.{codes}
 use Rattle.green_relations.specs.EggBoxes.{box_at, row_at, cell_at}
 use Rattle.report_text.specs.GreenSection.{marked, cell_text}
-use Rattle.report_text.proofs.Separated.{separated_next}
+use Rattle.report_buffer.proofs.Separated.{separated_next}
 use Rattle.report_text.proofs.green_section.push_cells.Goals as goal
 
 pub loop-column-preserved : goal.loop-column-preserved

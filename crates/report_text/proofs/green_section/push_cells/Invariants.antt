@@ -1,7 +1,7 @@
 use Rattle.std.proofs.Common.{◌≡◌, ◌++◌}
 use Rattle.std.specs.Prelude.{codes}
 use Rattle.green_relations.specs.EggBoxes.{box_at, row_at, cell_at}
-use Rattle.report_text.specs.Texts.{separated}
+use Rattle.report_buffer.specs.Texts.{separated}
 use Rattle.report_text.specs.GreenSection.{marked, cell_text}
 use Rattle.report_text.proofs.green_section.push_cells.Given as goal
 

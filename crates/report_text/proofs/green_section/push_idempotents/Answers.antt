@@ -1,6 +1,6 @@
 use Rattle.std.specs.Prelude.{codes}
 use Rattle.std.specs.Fmt.{decimal}
-use Rattle.report_text.proofs.Pieces.{three_pieces}
+use Rattle.report_buffer.proofs.Pieces.{three_pieces}
 use Rattle.report_text.proofs.green_section.push_idempotents.Goals as goal
 
 pub returns : goal.returns

@@ -1,8 +1,8 @@
 use Rattle.std.proofs.Common.{length, rules}
 use Rattle.green_relations.specs.EggBoxes.{box_at, row_at}
-use Rattle.report_text.specs.Texts.{texts_below}
+use Rattle.report_buffer.specs.Texts.{texts_below}
 use Rattle.report_text.specs.GreenSection.{marked, box_head, row_text}
-use Rattle.report_text.proofs.Channels.{says-raised, rendered-alone, lines-said, lines-raised}
+use Rattle.report_buffer.proofs.Channels.{says-raised, rendered-alone, lines-said, lines-raised}
 use Rattle.report_text.proofs.green_section.say_box.Goals as goal
 
 pub returns-in_err-say_rendered : goal.returns-in_err-say_rendered

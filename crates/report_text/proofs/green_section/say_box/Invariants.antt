@@ -1,6 +1,6 @@
 use Rattle.std.proofs.Common.{◌≡◌, []}
 use Rattle.green_relations.specs.EggBoxes.{box_at, row_at}
-use Rattle.report_text.specs.Saying.{channel, AreLinesSaid}
+use Rattle.report_buffer.specs.Saying.{channel, AreLinesSaid}
 use Rattle.report_text.specs.GreenSection.{marked, box_head, row_text}
 use Rattle.report_text.proofs.green_section.say_box.Given as goal
 

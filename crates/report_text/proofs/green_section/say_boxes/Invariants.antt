@@ -1,4 +1,4 @@
-use Rattle.report_text.specs.Saying.{channel, AreLinesSaid}
+use Rattle.report_buffer.specs.Saying.{channel, AreLinesSaid}
 use Rattle.report_text.specs.GreenSection.{marked, boxes_head, box_text}
 use Rattle.report_text.proofs.green_section.say_boxes.Given as goal
 

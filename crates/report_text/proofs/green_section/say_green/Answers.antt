@@ -1,7 +1,7 @@
 use Rattle.std.proofs.Common.{◌∙◌, ℕ, ap, subst, length}
 use Rattle.report_text.specs.GreenSection.{idempotents_text, marks_below}
-use Rattle.report_text.specs.Saying.{Says, channel}
-use Rattle.report_text.proofs.Channels.{says-then, says-raised}
+use Rattle.report_buffer.specs.Saying.{Says, channel}
+use Rattle.report_buffer.proofs.Channels.{says-then, says-raised}
 use Rattle.report_text.proofs.green_section.say_green.Goals as goal
 
 pub returns-in_err-say_boxes : goal.returns-in_err-say_boxes

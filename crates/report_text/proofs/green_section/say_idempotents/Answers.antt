@@ -1,5 +1,5 @@
 use Rattle.report_text.specs.GreenSection.{idempotents_text}
-use Rattle.report_text.proofs.Channels.{rendered-alone}
+use Rattle.report_buffer.proofs.Channels.{rendered-alone}
 use Rattle.report_text.proofs.green_section.say_idempotents.Goals as goal
 
 pub returns : goal.returns

@@ -1,5 +1,5 @@
 use Rattle.report_text.specs.LocalSection.{local_text}
-use Rattle.report_text.proofs.Channels.{rendered-alone}
+use Rattle.report_buffer.proofs.Channels.{rendered-alone}
 use Rattle.report_text.proofs.local_section.say_local.Goals as goal
 
 pub returns : goal.returns

@@ -1,6 +1,6 @@
 use Rattle.std.proofs.Common.{◌≡◌, ◌++◌}
 use Rattle.language_theory.specs.ShortlexGraph.{target}
-use Rattle.report_text.specs.Texts.{numbers_below}
+use Rattle.report_buffer.specs.Texts.{numbers_below}
 use Rattle.report_text.proofs.monoid_section.push_left_targets.Given as goal
 
 -- the targets for the letters before this one stand behind the text that was there

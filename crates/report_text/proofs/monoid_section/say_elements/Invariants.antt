@@ -1,5 +1,5 @@
 use Rattle.std.proofs.Common.{◌≡◌, []}
-use Rattle.report_text.specs.Saying.{channel, AreLinesSaid}
+use Rattle.report_buffer.specs.Saying.{channel, AreLinesSaid}
 use Rattle.report_text.specs.MonoidSection.{elements_head, element_text}
 use Rattle.report_text.proofs.monoid_section.say_elements.Given as goal
 

@@ -1,5 +1,5 @@
 use Rattle.report_text.specs.MonoidSection.{rules_text}
-use Rattle.report_text.proofs.Channels.{says-then, says-raised}
+use Rattle.report_buffer.proofs.Channels.{says-then, says-raised}
 use Rattle.report_text.proofs.monoid_section.say_monoid.Goals as goal
 
 pub returns-in_err-say_elements : goal.returns-in_err-say_elements

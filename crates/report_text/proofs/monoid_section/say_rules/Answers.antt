@@ -1,7 +1,7 @@
 use Rattle.std.proofs.Common.{length, rules}
-use Rattle.report_text.specs.Texts.{texts_below}
+use Rattle.report_buffer.specs.Texts.{texts_below}
 use Rattle.report_text.specs.MonoidSection.{rules_head, rule_text}
-use Rattle.report_text.proofs.Channels.{says-raised, rendered-alone, lines-said, lines-raised}
+use Rattle.report_buffer.proofs.Channels.{says-raised, rendered-alone, lines-said, lines-raised}
 use Rattle.report_text.proofs.monoid_section.say_rules.Goals as goal
 
 pub returns-in_err-say_rendered : goal.returns-in_err-say_rendered

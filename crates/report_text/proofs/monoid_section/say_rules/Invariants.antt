@@ -1,5 +1,5 @@
 use Rattle.std.proofs.Common.{◌≡◌, []}
-use Rattle.report_text.specs.Saying.{channel, AreLinesSaid}
+use Rattle.report_buffer.specs.Saying.{channel, AreLinesSaid}
 use Rattle.report_text.specs.MonoidSection.{rules_head, rule_text}
 use Rattle.report_text.proofs.monoid_section.say_rules.Given as goal
 

@@ -1,5 +1,5 @@
 use Rattle.report_text.specs.PiecewiseSection.{piecewise_text}
-use Rattle.report_text.proofs.Channels.{rendered-alone}
+use Rattle.report_buffer.proofs.Channels.{rendered-alone}
 use Rattle.report_text.proofs.piecewise_section.say_piecewise.Goals as goal
 
 pub returns : goal.returns

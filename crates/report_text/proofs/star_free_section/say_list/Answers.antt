@@ -1,6 +1,6 @@
 use Rattle.std.specs.Prelude.{codes}
-use Rattle.report_text.specs.Texts.{number_line}
-use Rattle.report_text.proofs.Channels.{says-then, says-raised}
+use Rattle.report_buffer.specs.Texts.{number_line}
+use Rattle.report_buffer.proofs.Channels.{says-then, says-raised}
 use Rattle.report_text.proofs.star_free_section.say_list.Goals as goal
 
 pub returns-in_err-say_nodes : goal.returns-in_err-say_nodes

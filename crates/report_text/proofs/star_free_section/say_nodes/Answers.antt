@@ -1,7 +1,7 @@
 use Rattle.std.proofs.Common.{length, rules}
-use Rattle.report_text.specs.Texts.{texts_below}
+use Rattle.report_buffer.specs.Texts.{texts_below}
 use Rattle.report_text.specs.StarFreeSection.{list_head, node_line}
-use Rattle.report_text.proofs.Channels.{says-raised, rendered-alone, lines-said, lines-raised}
+use Rattle.report_buffer.proofs.Channels.{says-raised, rendered-alone, lines-said, lines-raised}
 use Rattle.report_text.proofs.star_free_section.say_nodes.Goals as goal
 
 pub returns-in_err-say_rendered : goal.returns-in_err-say_rendered

@@ -1,5 +1,5 @@
-use Rattle.report_text.specs.Texts.{number_line}
-use Rattle.report_text.proofs.Channels.{rendered-alone}
+use Rattle.report_buffer.specs.Texts.{number_line}
+use Rattle.report_buffer.proofs.Channels.{rendered-alone}
 use Rattle.report_text.proofs.star_free_section.say_number.Goals as goal
 
 pub returns : goal.returns

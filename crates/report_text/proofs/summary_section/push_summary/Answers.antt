@@ -1,5 +1,5 @@
 use Rattle.report_text.specs.SummarySection.{counts_text, heads_text}
-use Rattle.report_text.proofs.Pieces.{two_pieces}
+use Rattle.report_buffer.proofs.Pieces.{two_pieces}
 use Rattle.report_text.proofs.summary_section.push_summary.Goals as goal
 
 pub returns : goal.returns

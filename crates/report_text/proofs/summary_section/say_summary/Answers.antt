@@ -1,7 +1,7 @@
 use Rattle.std.proofs.Common.{List, ℕ, ◌++◌, ◌≡◌, subst}
 use Rattle.std.specs.Prelude.{OnOk}
 use Rattle.report_text.specs.SummarySection.{counts_text}
-use Rattle.report_text.proofs.Channels.{rendered-alone}
+use Rattle.report_buffer.proofs.Channels.{rendered-alone}
 use Rattle.report_text.proofs.FirstLines.{sections-first_lines}
 use Rattle.report_text.proofs.summary_section.say_summary.Goals as goal
 

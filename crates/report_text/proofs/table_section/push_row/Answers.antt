@@ -2,7 +2,7 @@ use Rattle.std.proofs.Common.{◌++◌, ap, ◌∙◌}
 use Rattle.std.specs.Prelude.{codes}
 use Rattle.std.specs.Fmt.{decimal}
 use Rattle.parallel_table.specs.ProductTables.{cell}
-use Rattle.report_text.proofs.Separated.{separated_next}
+use Rattle.report_buffer.proofs.Separated.{separated_next}
 use Rattle.report_text.proofs.table_section.push_row.Goals as goal
 
 pub loop-other-preserved : goal.loop-other-preserved

@@ -1,7 +1,7 @@
 use Rattle.std.proofs.Common.{rules}
-use Rattle.report_text.specs.Texts.{texts_below}
+use Rattle.report_buffer.specs.Texts.{texts_below}
 use Rattle.report_text.specs.TableSection.{table_head, products_text}
-use Rattle.report_text.proofs.Channels.{says-raised, rendered-alone, lines-said, lines-raised}
+use Rattle.report_buffer.proofs.Channels.{says-raised, rendered-alone, lines-said, lines-raised}
 use Rattle.report_text.proofs.table_section.say_products.Goals as goal
 
 pub returns-in_err-say_rendered : goal.returns-in_err-say_rendered

@@ -1,5 +1,5 @@
 use Rattle.std.proofs.Common.{◌≡◌, []}
-use Rattle.report_text.specs.Saying.{channel, AreLinesSaid}
+use Rattle.report_buffer.specs.Saying.{channel, AreLinesSaid}
 use Rattle.report_text.specs.TableSection.{table_head, products_text}
 use Rattle.report_text.proofs.table_section.say_products.Given as goal
 

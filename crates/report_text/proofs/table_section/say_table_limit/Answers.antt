@@ -1,5 +1,5 @@
 use Rattle.report_text.specs.TableSection.{table_limit_text}
-use Rattle.report_text.proofs.Channels.{rendered-alone}
+use Rattle.report_buffer.proofs.Channels.{rendered-alone}
 use Rattle.report_text.proofs.table_section.say_table_limit.Goals as goal
 
 pub returns : goal.returns

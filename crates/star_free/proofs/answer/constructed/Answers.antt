@@ -1,10 +1,10 @@
 use Rattle.std.proofs.Common.{◌≡◌, ◌∙◌, Some, Err, length, refl, subst}
 use Rattle.star_free_theory.specs.Construction.{construction}
-use Rattle.star_free_lists.specs.declared.faults.SfFault.{SfFault}
-use Rattle.star_free_lists.specs.Constructing.{IsAnswer, algebra_of, most_depth}
+use Rattle.local_divisors.specs.declared.faults.SfFault.{SfFault}
+use Rattle.local_divisors.specs.Constructing.{IsAnswer, algebra_of, most_depth}
 use Rattle.syntactic_monoid.specs.SyntacticMonoid.{recognised}
 use Rattle.star_free.specs.Answer.{images_of, finals_of}
-use Rattle.star_free.proofs.Constructed.{can_construct, comes_here, denotes_here, denotes_language, pruned_language}
+use Rattle.star_free.proofs.Constructed.{can_construct, comes_here, denotes_here, denotes_language, has_star_free_list, pruned_language}
 use Rattle.star_free.proofs.answer.constructed.Goals as goal
 
 pub construct-requires : goal.construct-requires
@@ -48,14 +48,16 @@ returns-in-Ok-clause-tells c =
     let e : c.as_slice.result.now ≡ images_of m = c.as_slice.ensures.value ∙ c.in_ok-images.ensures in
     let f : c.as_slice-2.result.now ≡ finals_of m =
     c.as_slice-2.ensures.value ∙ c.in_ok-finals.ensures in
-    let l = c.in-Ok.list in
-    pruned_language k (recognised m) l.nodes c.in_ok-pruned-in-Ok.pruned.nodes l.root
-    c.in_ok-pruned-in-Ok.pruned.root
-    (denotes_language m c.cayley-elements.ensures.syntactic c.args.table.now c.requires.table l.nodes
-    l.root
-    (denotes_here m c.cayley-elements.ensures.syntactic c.args.table.now c.as_slice.result.now
-    c.as_slice-2.result.now l.nodes l.root e f c.in-Ok.ensures.words))
-    c.in_ok-pruned-in-Ok.ensures.words
+    let l = c.in-Ok.list in (
+      c.len-len.ensures.list,
+      pruned_language k (recognised m) l.nodes c.in_ok-pruned-in-Ok.pruned.nodes l.root
+          c.in_ok-pruned-in-Ok.pruned.root
+          (denotes_language m c.cayley-elements.ensures.syntactic c.args.table.now c.requires.table l.nodes
+          l.root
+          (denotes_here m c.cayley-elements.ensures.syntactic c.args.table.now c.as_slice.result.now
+          c.as_slice-2.result.now l.nodes l.root e f c.in-Ok.ensures.words))
+          c.in_ok-pruned-in-Ok.ensures.words,
+    )
 
 pub returns-in-Err-Depth-clause-answer : goal.returns-in-Err-Depth-clause-answer
 returns-in-Err-Depth-clause-answer c =
@@ -96,3 +98,11 @@ returns-in-Err-Nodes-clause-answer c =
             (subst P c.in-Err-Nodes.field-0-is c.in-Err-Nodes.ensures.answer);
       },
     )
+
+pub returns-in-Err-Depth-clause-tells : goal.returns-in-Err-Depth-clause-tells
+returns-in-Err-Depth-clause-tells c =
+    has_star_free_list c.args.monoid.now c.cayley-elements.ensures.syntactic c.requires.aperiodic
+
+pub returns-in-Err-Nodes-clause-tells : goal.returns-in-Err-Nodes-clause-tells
+returns-in-Err-Nodes-clause-tells c =
+    has_star_free_list c.args.monoid.now c.cayley-elements.ensures.syntactic c.requires.aperiodic

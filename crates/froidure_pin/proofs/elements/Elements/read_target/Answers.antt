@@ -5,6 +5,7 @@ use Rattle.froidure_pin.specs.Search.{rest_of, first_times}
 use Rattle.froidure_pin.proofs.Shortcut.{first_times_later}
 use Rattle.froidure_pin.proofs.Ready.{reads_first, reads_prefix, reads_product}
 use Rattle.froidure_pin.proofs.elements.Elements.read_target.Goals as goal
+use Rattle.froidure_pin.proofs.elements.Elements.read_target.Goals.{After-last}
 
 pub index-requires : goal.index-requires
 index-requires c =
@@ -55,7 +56,7 @@ index-product-requires c =
     omega arith
 
 -- what was read from the left rows, and that its right target is there
-product_is : (c : goal.After-last)
+product_is : (c : After-last)
     → c.index-product.result.now
     ≡ slice_index c.args.self.now.progress.left.items
     (c.prefix.result * c.letters-letters.result + c.first-first.result)
@@ -80,7 +81,7 @@ product_is c =
     (c.prefix.result * c.letters-letters.result + c.first-first.result)
     c.index-product.result.now 0 there
 
-product_there : (c : goal.After-last)
+product_there : (c : After-last)
     → c.index-product.result.now * c.letters-letters.result + c.last.result
     < length c.args.targets.now
 product_there c =
@@ -104,66 +105,18 @@ pub offset_bounds-targets-product : goal.offset_bounds-targets-product
 offset_bounds-targets-product c = let p = product_there c in omega arith
 
 pub bounds-targets-product : goal.bounds-targets-product
-bounds-targets-product c =
-    let s = c.args.self.now in
-    let q = c.requires in
-    let some : 0
-    < rest_of s.generators.now.letters c.args.targets.now s.progress.links c.args.job.element
-    c.args.job.letter = omega (arith, c.if-rest-eq0.false, c.rest-rest.ensures.rest) in
-    let there : c.prefix.result * c.letters-letters.result + c.first-first.result
-    < length s.progress.left.items =
-    rw (
-      c.prefix.ensures,
-      c.rest-rest.ensures.rest,
-      c.letters-letters.ensures.letters,
-      c.first-first.ensures,
-    )
-    (reads_prefix s.generators.now s.rows s.progress c.args.targets.now q.ready q.seen
-    c.args.job.element c.args.job.letter q.job.from q.job.to q.job.letter q.here q.known some) in
-    let is : c.index-product.result.now
-    ≡ slice_index s.progress.left.items
-    (c.prefix.result * c.letters-letters.result + c.first-first.result) =
-    c.index-product.ensures
-    ∙ get_or_default s.progress.left.items
-    (c.prefix.result * c.letters-letters.result + c.first-first.result)
-    c.index-product.result.now 0 there in
-    rw (
-      is,
-      c.prefix.ensures,
-      c.last.ensures,
-      c.rest-rest.ensures.rest,
-      c.letters-letters.ensures.letters,
-      c.first-first.ensures,
-    )
-    (reads_product s.generators.now s.rows s.progress c.args.targets.now q.ready q.seen
-    c.args.job.element c.args.job.letter q.job.from q.job.to q.job.letter q.here q.known some)
+bounds-targets-product c = product_there (goal.at.bounds-targets-product c).After-last
 
 pub returns : goal.returns
 returns c =
     let s = c.args.self.now in
-    let q = c.requires in
     let k = s.generators.now.letters in
     let l = s.progress.links in
     let left = s.progress.left.items in
     let some : 0 < rest_of k c.args.targets.now l c.args.job.element c.args.job.letter =
     omega (arith, c.if-rest-eq0.false, c.rest-rest.ensures.rest) in
-    let there : c.prefix.result * c.letters-letters.result + c.first-first.result < length left =
     rw (
-      c.prefix.ensures,
-      c.rest-rest.ensures.rest,
-      c.letters-letters.ensures.letters,
-      c.first-first.ensures,
-    )
-    (reads_prefix s.generators.now s.rows s.progress c.args.targets.now q.ready q.seen
-    c.args.job.element c.args.job.letter q.job.from q.job.to q.job.letter q.here q.known some) in
-    let is : c.index-product.result.now
-    ≡ slice_index left (c.prefix.result * c.letters-letters.result + c.first-first.result) =
-    c.index-product.ensures
-    ∙ get_or_default left
-    (c.prefix.result * c.letters-letters.result + c.first-first.result)
-    c.index-product.result.now 0 there in
-    rw (
-      is,
+      product_is (goal.at.returns c).After-last,
       c.prefix.ensures,
       c.last.ensures,
       c.rest-rest.ensures.rest,

@@ -3,9 +3,20 @@ use Rattle.std.proofs.lemmas.Grind.{common_steps}
 use Rattle.green_relations.specs.Layout.{layout}
 use Rattle.green_relations.proofs.Laying.{in_rows, rows_is}
 use Rattle.green_relations.proofs.boxes.Boxes.rows.Goals as goal
+use Rattle.green_relations.proofs.boxes.Boxes.rows.Goals.{After-index}
 
 pub index-requires : goal.index-requires
 index-requires c =
+    let s = c.self.inside in
+    let t = layout s.rows.items s.columns.items s.corners.items s.starts.items s.members.items in
+    let inside : c.args.n < length s.rows.items =
+    in_rows t c.self.invariant c.args.self.now c.self.view_is c.args.n c.requires in
+    grind (arith, common_steps)
+
+-- what is read
+read : (c : After-index)
+    → c.index.result.now ≡ slice_index c.self.inside.rows.items c.args.n
+read c =
     let s = c.self.inside in
     let t = layout s.rows.items s.columns.items s.corners.items s.starts.items s.members.items in
     let inside : c.args.n < length s.rows.items =
@@ -16,32 +27,18 @@ pub overflow_cast-result : goal.overflow_cast-result
 overflow_cast-result c =
     let s = c.self.inside in
     let t = layout s.rows.items s.columns.items s.corners.items s.starts.items s.members.items in
-    let inside : c.args.n < length s.rows.items =
-    in_rows t c.self.invariant c.args.self.now c.self.view_is c.args.n c.requires in
-    let row : c.args.n < length s.rows.items =
-    in_rows t c.self.invariant c.args.self.now c.self.view_is c.args.n c.requires in
-    let read : c.index.result.now ≡ slice_index s.rows.items c.args.n =
-    grind (arith, common_steps) in
-    omega (arith, read, (c.self.invariant.high c.args.n row).1)
+    let row = in_rows t c.self.invariant c.args.self.now c.self.view_is c.args.n c.requires in
+    omega (arith, read (goal.at.overflow_cast-result c).After-index, (c.self.invariant.high c.args.n row).1)
 
 pub returns-clause-rows : goal.returns-clause-rows
 returns-clause-rows c =
     let s = c.self.inside in
     let t = layout s.rows.items s.columns.items s.corners.items s.starts.items s.members.items in
-    let inside : c.args.n < length s.rows.items =
-    in_rows t c.self.invariant c.args.self.now c.self.view_is c.args.n c.requires in
-    let read : c.index.result.now ≡ slice_index s.rows.items c.args.n =
-    grind (arith, common_steps) in
-    read ∙ rows_is t c.self.invariant c.args.self.now c.self.view_is c.args.n c.requires
+    read (goal.at.returns-clause-rows c).After-index ∙ rows_is t c.self.invariant c.args.self.now c.self.view_is c.args.n c.requires
 
 pub returns-clause-some : goal.returns-clause-some
 returns-clause-some c =
     let s = c.self.inside in
     let t = layout s.rows.items s.columns.items s.corners.items s.starts.items s.members.items in
-    let inside : c.args.n < length s.rows.items =
-    in_rows t c.self.invariant c.args.self.now c.self.view_is c.args.n c.requires in
-    let row : c.args.n < length s.rows.items =
-    in_rows t c.self.invariant c.args.self.now c.self.view_is c.args.n c.requires in
-    let read : c.index.result.now ≡ slice_index s.rows.items c.args.n =
-    grind (arith, common_steps) in
-    omega (arith, read, (c.self.invariant.high c.args.n row).0)
+    let row = in_rows t c.self.invariant c.args.self.now c.self.view_is c.args.n c.requires in
+    omega (arith, read (goal.at.returns-clause-some c).After-index, (c.self.invariant.high c.args.n row).0)

@@ -3,6 +3,7 @@ use Rattle.star_free_theory.specs.declared.nodes.SfNode.{SfNode}
 use Rattle.star_free_theory.specs.Pruning.{IsPruning}
 use Rattle.star_free_theory.proofs.Pruning.{pruned_denotes}
 use Rattle.star_free_lists.proofs.OnePruning.{pruned_distinct}
+use Rattle.star_free_lists.proofs.PrunedLetters.{letters_pruned}
 use Rattle.star_free_lists.proofs.list.SfList.prune.Goals as goal
 
 pub returns : goal.returns
@@ -21,4 +22,5 @@ returns c =
       pruning = (kept, h);
       words = λ k w. pruned_denotes xs root kept ys place s h k w;
       distinct = pruned_distinct xs root kept ys place s h;
+      letters = λ k below. letters_pruned k xs root kept ys place below h;
     }

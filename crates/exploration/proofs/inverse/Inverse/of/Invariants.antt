@@ -1,8 +1,0 @@
-use Rattle.std.proofs.Common.{◌≡◌, ◌<◌}
-use Rattle.language_theory.specs.ShortlexGraph.{IsGraph}
-use Rattle.exploration.specs.Splitting.{IsInverse}
-use Rattle.exploration.proofs.inverse.Inverse.of.Given as goal
-
-abbrev pub invariant-loop-node : goal.invariant-loop-node
-invariant-loop-node l = IsGraph l.graph × (l.node-end ≡ l.graph.size) × (l.letter < l.graph.letters)
-    × IsInverse l.graph l.letter l.node l.heads.items l.nexts.items

@@ -1,8 +1,0 @@
-use Rattle.std.proofs.Common.{◌≡◌}
-use Rattle.std.specs.Prelude.{All}
-use Rattle.exploration.specs.Splitting.{IsInverseOf}
-use Rattle.exploration.proofs.inverse.inverses.Given as goal
-
-abbrev pub invariant-loop-letter : goal.invariant-loop-letter
-invariant-loop-letter l = (l.letter-end ≡ l.graph.letters)
-    × All (IsInverseOf l.graph) l.inverses.items

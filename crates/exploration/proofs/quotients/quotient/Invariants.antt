@@ -1,7 +1,0 @@
-use Rattle.language_theory.specs.ShortlexGraph.{IsGraph}
-use Rattle.exploration.proofs.Firsts.{AreTargetsOf}
-use Rattle.exploration.proofs.quotients.quotient.Given as goal
-
-abbrev pub invariant-loop-first : goal.invariant-loop-first
-invariant-loop-first l = IsGraph l.graph × AreTargetsOf l.graph l.partition.count
-    l.partition.classes l.firsts l.first-index l.targets.items

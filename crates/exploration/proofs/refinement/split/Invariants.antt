@@ -1,9 +1,0 @@
-use Rattle.std.proofs.Common.{◌≡◌}
-use Rattle.language_theory.specs.ShortlexGraph.{IsGraph}
-use Rattle.exploration.specs.Refinement.{signature}
-use Rattle.exploration.proofs.Rounds.{AreInterned}
-use Rattle.exploration.proofs.refinement.split.Given as goal
-
-abbrev pub invariant-loop-node : goal.invariant-loop-node
-invariant-loop-node l = IsGraph l.graph × (l.node-end ≡ l.graph.size)
-    × AreInterned (signature l.graph l.marks l.classes) l.node l.seen.keys l.finer.items

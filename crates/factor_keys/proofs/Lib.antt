@@ -1,0 +1,5 @@
+pub mod Repeats
+pub mod Places
+pub mod Widths
+pub mod ComputedKeys
+pub mod Numbering

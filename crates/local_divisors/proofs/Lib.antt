@@ -1,0 +1,17 @@
+pub mod Interning
+pub mod Steps
+pub mod Tables
+pub mod Linking
+pub mod Alike
+pub mod Choosing
+pub mod Making
+pub mod Finishing
+pub mod Recursing
+pub mod Keeping
+pub mod Letters
+pub mod Distinct
+pub mod Sizes
+pub mod WholeMonoid
+pub mod WholeSteps
+pub mod FinishingSteps
+pub mod TreatSteps

@@ -1,0 +1,10 @@
+pub mod LocalWords
+pub mod FirstElements
+pub mod LocalTables
+pub mod Elements
+pub mod FirstFlaws
+pub mod LocalSizes
+pub mod LeastWitnesses
+pub mod OneWitness
+pub mod Agreeing
+pub mod Languages

@@ -1,0 +1,3 @@
+pub mod LocalSubmonoids
+pub mod Witness
+pub mod LocalTables

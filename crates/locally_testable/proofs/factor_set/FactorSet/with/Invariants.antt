@@ -1,9 +1,0 @@
--- what is written, with what is still to be written, is the new set
-use Rattle.std.proofs.Common.{◌≡◌, ◌++◌, drop}
-use Rattle.locally_testable.specs.FactorKeys.{with_place}
-use Rattle.locally_testable.proofs.Places.{left_over}
-use Rattle.locally_testable.proofs.factor_set.FactorSet.with.Given as goal
-
-abbrev pub invariant-loop-old : goal.invariant-loop-old
-invariant-loop-old l = l.places.items ++ left_over l.is_placed l.place (drop l.old-index l.self)
-    ≡ with_place l.place l.self

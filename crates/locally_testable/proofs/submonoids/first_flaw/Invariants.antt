@@ -1,7 +1,0 @@
-use Rattle.std.proofs.Common.{ℕ, ◌<◌, ◌≡◌}
-use Rattle.locally_testable.specs.LocalTables.{IsIdempotentAt, HasNoFlaw}
-use Rattle.locally_testable.proofs.submonoids.first_flaw.Given as goal
-
-abbrev pub invariant-loop-e : goal.invariant-loop-e
-invariant-loop-e l = ((j : ℕ) → j < l.e → IsIdempotentAt l.monoid l.table j → HasNoFlaw l.table j)
-    × (l.e-end ≡ l.table.side)

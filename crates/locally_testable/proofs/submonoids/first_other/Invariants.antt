@@ -1,6 +1,0 @@
-use Rattle.std.proofs.Common.{ℕ, ◌<◌, get_or}
-use Rattle.locally_testable.specs.LocalTables.{AreOneProduct}
-use Rattle.locally_testable.proofs.submonoids.first_other.Given as goal
-
-abbrev pub invariant-loop-place : goal.invariant-loop-place
-invariant-loop-place l = (i : ℕ) → i < l.place → AreOneProduct l.table l.one (get_or l.elements i 0)

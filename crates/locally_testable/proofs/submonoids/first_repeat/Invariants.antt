@@ -1,6 +1,0 @@
-use Rattle.std.proofs.Common.{ℕ, ◌<◌}
-use Rattle.locally_testable.specs.LocalTables.{IsIdempotentElement, local_element}
-use Rattle.locally_testable.proofs.submonoids.first_repeat.Given as goal
-
-abbrev pub invariant-loop-s : goal.invariant-loop-s
-invariant-loop-s l = (j : ℕ) → j < l.s → IsIdempotentElement l.table (local_element l.table l.e j)

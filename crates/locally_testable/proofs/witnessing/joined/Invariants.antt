@@ -1,6 +1,0 @@
--- what is written, with what is still to be written, is both words
-use Rattle.std.proofs.Common.{◌≡◌, ◌++◌, drop}
-use Rattle.locally_testable.proofs.witnessing.joined.Given as goal
-
-abbrev pub invariant-loop-letter : goal.invariant-loop-letter
-invariant-loop-letter l = l.whole ++ drop l.letter-index l.second ≡ l.first ++ l.second

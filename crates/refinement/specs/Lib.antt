@@ -1,0 +1,3 @@
+pub mod Refinement
+pub mod Splitting
+pub mod SplittingState

@@ -1,0 +1,3 @@
+pub mod Channels
+pub mod Separated
+pub mod Pieces

@@ -1,7 +1,0 @@
-use Rattle.std.proofs.Common.{◌∙◌, sym, arith}
-use Rattle.star_free_lists.proofs.Linking.{next_taken}
-use Rattle.star_free_lists.proofs.grouping.Pairs.next.Goals as goal
-
-pub returns : goal.returns
-returns c = sym c.self.view_is ∙ next_taken c.self.inside.links.now c.self.invariant.0
-    c.self.inside.place c.self.invariant.1 (omega (arith, c.if-self-eq0.false))

@@ -1,0 +1,3 @@
+pub mod StateMaps
+pub mod Raising
+pub mod Found

@@ -1,5 +1,0 @@
-use Rattle.syntactic_monoid.proofs.StateMaps.{AreStepsTo}
-use Rattle.syntactic_monoid.proofs.steps.set_letter.Given as goal
-
-abbrev pub invariant-loop-state : goal.invariant-loop-state
-invariant-loop-state l = AreStepsTo l.dfa.graph l.letter l.state l.generators
