@@ -570,14 +570,14 @@ fn a_run_over_real_files_reads_the_named_file(rt: HostRuntime) -> Result<(), Fai
     let mut writer = RealSink::new(fs::create(&rt, name)?);
     let is_written = put_all(&mut writer, AB_STAR.as_bytes());
     let alloc = rt.alloc();
-    let is_read = is_run_over_files(&rt, alloc, &["report", name], 0, AB_STAR_REPORT, "");
+    let is_read = is_run_over_files(&rt, alloc, &["report", name], 0, AB_STAR_REPORT, "")?;
     let line = "synmon: cannot read\n";
     let absent = ["automaton", "no_such_file.test"];
-    let is_absent = is_run_over_files(&rt, alloc, &absent, 3, "", line);
+    let is_absent = is_run_over_files(&rt, alloc, &absent, 3, "", line)?;
     fs::remove_file(&rt, name)?;
     assert!(rt; is_written);
-    assert!(rt; is_read?);
-    assert!(rt; is_absent?);
+    assert!(rt; is_read);
+    assert!(rt; is_absent);
     Ok(())
 }
 

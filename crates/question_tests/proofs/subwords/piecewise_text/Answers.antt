@@ -6,4 +6,4 @@ pub piecewise-requires-clause-minimal : goal.piecewise-requires-clause-minimal
 piecewise-requires-clause-minimal g c =
     let d = c.in_ok-dfa.dfa in
     minimal_fits d.graph.letters (accepted d) c.in_ok-monoid.monoid d c.in_ok-monoid.ensures
-    c.len-_states.ensures.minimal.minimal
+    c.len-states.ensures.minimal.minimal
