@@ -12,9 +12,8 @@ use syn_words::Memory;
 
 /// An automaton with 1 to 4,001 states and 1 to 60 letters. States and letters are numbers, counted from 0.
 ///
-/// For each state and letter that have steps it keeps a row of marks, 64 to a word, so that adding a step and asking
-/// for one take constant time, and all targets of a state by a letter are at hand as a set. A contract sees the steps
-/// in the order of their states, letters and targets.
+/// For each state and letter that have steps it keeps a row of marks, 64 to a word, so that all targets of a state by a
+/// letter are at hand as a set. A contract sees the steps in the order of their states, letters and targets.
 #[derive(Drop)]
 pub struct Nfa {
     letters: u32,

@@ -7,7 +7,7 @@ ghost use Rattle.local_divisors.specs.Instances.{Multiplication, IsMultiplicatio
 ghost use Rattle.local_divisors.specs.Instances.{AreMiddles, AreLocalFactors};
 ghost use Rattle.local_divisors.specs.Instances.{IsSearch, GoesOn, IsNoted, AreSpanMarks};
 
-use parallel_table::Table;
+use parallel_table::{MOST_SIDE, Table};
 use std::alloc::Global;
 use std::marker::Model;
 use syn_words::Memory;
@@ -54,7 +54,7 @@ impl<'a> Product<'a> {
     /// The number of numbers that can be multiplied.
     pub(crate) fn side(&self) -> u32
         ensures side { result ≡ self.now.table.side }
-        ensures few { result ≤ 8000 }
+        ensures few { result ≤ MOST_SIDE }
         ensures product { IsMultiplication self.now }
     {
         self.table.side()

@@ -4,7 +4,7 @@ ghost use Rattle.parallel_table.specs.ProductTables.{IsTableOf};
 ghost use Rattle.local_submonoids.specs.LocalTables.{IsSizeHere, IsWorkBelow};
 
 use crate::submonoids::{first_elements, is_idempotent};
-use parallel_table::Table;
+use parallel_table::{MOST_SIDE, Table};
 use std::alloc::Global;
 use syn_words::Memory;
 use syntactic_monoid::Syntactic;
@@ -26,10 +26,10 @@ pub fn local_work(alloc: Global, monoid: &Syntactic, table: &Table) -> Result<u6
 /// Conditions: the table is that of the monoid and no greater than a table can be, and the element is in range.
 fn local_size(alloc: Global, monoid: &Syntactic, table: &Table, e: u32) -> Result<u32, Memory>
     requires table { IsTableOf monoid.now.graphs table.now }
-    requires few { table.now.side ≤ 8000 }
+    requires few { table.now.side ≤ MOST_SIDE }
     requires element { e < table.now.side }
     ensures size { IfOk result (λ n. IsSizeHere monoid.now table.now e n) }
-    ensures few { IfOk result (λ n. n ≤ 8000) }
+    ensures few { IfOk result (λ n. n ≤ MOST_SIDE) }
 {
     if !is_idempotent(monoid, table, e) {
         return Ok(0);

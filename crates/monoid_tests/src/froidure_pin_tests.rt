@@ -1,6 +1,7 @@
 //! Full transformations, against a plain closure over all products, and two workers in a batch at once.
 ghost use Rattle.std.specs.Prelude.{◌≤◌};
 
+use crate::counting::CountingGate;
 use froidure_pin::{EnumFault, Enumerated, Generators, enumerate};
 use indexmap::IndexSet;
 use std::alloc::Global;
@@ -159,6 +160,17 @@ fn full_transformations_6(rt: HostRuntime) -> Result<(), Fail> {
     let all = enumerate(&rt, alloc, &generators, 46_656, 2, &OpenGate)?;
     assert_eq!(rt; all.cayley.len(), 46_656);
     assert_eq!(rt; idempotents(&all), 1_057);
+    Ok(())
+}
+
+/// Of six letters that leave the only point alone, 64 workers make the six rows of the one batch: six of them.
+#[test]
+fn six_parts_of_one_batch(rt: HostRuntime) -> Result<(), Fail> {
+    let generators = Generators::new(rt.alloc(), 1, 6)?;
+    let gate = CountingGate::new();
+    let all = enumerate(&rt, rt.alloc(), &generators, 1, 64, &gate)?;
+    assert_eq!(rt; all.cayley.len(), 1);
+    assert!(rt; gate.is_six_once());
     Ok(())
 }
 

@@ -6,9 +6,13 @@ mod cayley_tables_tests;
 #[cfg(test)]
 mod components_tests;
 #[cfg(test)]
+mod counting;
+#[cfg(test)]
 mod froidure_pin_tests;
 #[cfg(test)]
 mod green_relations_tests;
+#[cfg(test)]
+mod laws_of_all_words;
 #[cfg(test)]
 mod parallel_table_tests;
 #[cfg(test)]

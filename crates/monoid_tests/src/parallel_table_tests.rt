@@ -1,6 +1,7 @@
 //! All products of the monoid of `(ab)*`, by few and by many workers.
 ghost use Rattle.std.specs.Prelude.{◌≤◌};
 
+use crate::counting::CountingGate;
 use crate::worked;
 use cayley_tables::Cayley;
 use parallel_table::{Table, TableFault, fill, new_table};
@@ -63,6 +64,17 @@ fn ab_star(rt: HostRuntime) -> Result<(), Fail> {
         5, 3, 2, 3, 3, 5,
     ];
     assert!(rt; is_filled(&rt, rt.alloc(), &cayley, &expected)?);
+    Ok(())
+}
+
+/// 64 workers of six rows are six.
+#[test]
+fn six_parts_of_six_rows(rt: HostRuntime) -> Result<(), Fail> {
+    let cayley = worked::ab_star(rt.alloc())?;
+    let gate = CountingGate::new();
+    let mut table = new_table(rt.alloc(), &cayley, 6)?;
+    fill(&rt, &cayley, &mut table, 64, &gate);
+    assert!(rt; gate.is_six_once());
     Ok(())
 }
 

@@ -4,6 +4,7 @@ pub mod Exponents
 pub mod Returns
 pub mod FiniteIdeals
 pub mod Cells
+pub mod Groups
 pub mod Rules
 pub mod Rewriting
 pub mod Cayley

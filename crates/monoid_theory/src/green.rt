@@ -5,7 +5,7 @@ ghost use Rattle.language_theory.specs.Congruence.{IsEquivalence, IsRightCongrue
 ghost use Rattle.language_theory.specs.Representatives.{AreRepresentatives};
 ghost use Rattle.language_theory.specs.ShortlexGraph.{Graph, walk};
 ghost use Rattle.monoid_theory.specs.Products.{IsRightGraph, IsLeftGraph};
-ghost use Rattle.monoid_theory.specs.Green.{IsInRightIdeal, IsInLeftIdeal, IsInIdeal, IsR, IsL, IsJ, IsH, IsD, AreMembers, IsRTrivial, IsLTrivial, IsJTrivial};
+ghost use Rattle.monoid_theory.specs.Green.{IsInRightIdeal, IsInLeftIdeal, IsInIdeal, IsR, IsL, IsJ, IsH, IsD, IsIdempotent, AreMembers, IsRTrivial, IsLTrivial, IsJTrivial};
 
 use language_theory::language::Relation;
 
@@ -93,6 +93,21 @@ pub fn cells_of_one_box_have_one_size<R: Relation>()
         → AreRepresentatives k R.same words → (s t : List ℕ) → Over k s → Over k t
         → IsJ k R.same s t → (xs ys : List ℕ) → AreMembers (IsH k R.same) words s xs
         → AreMembers (IsH k R.same) words t ys → length xs ≡ length ys }
+{}
+
+/// The class of H of an idempotent, a cell with a star, is a group: the idempotent is its identity, products stay in
+/// it, and each of its elements has an inverse in it. A class of H has at most one idempotent.
+pub fn idempotent_classes_are_groups<R: Relation>()
+    ensures identity { (k : ℕ) → IsCongruence k R.same → (e s : List ℕ) → Over k e → Over k s
+        → IsIdempotent R.same e → IsH k R.same s e → R.same (e ++ s) s × R.same (s ++ e) s }
+    ensures product { (k : ℕ) → IsCongruence k R.same → (e s t : List ℕ) → Over k e → Over k s
+        → Over k t → IsIdempotent R.same e → IsH k R.same s e → IsH k R.same t e
+        → IsH k R.same (s ++ t) e }
+    ensures inverse { (k : ℕ) → IsCongruence k R.same → (e s : List ℕ) → Over k e → Over k s
+        → IsIdempotent R.same e → IsH k R.same s e → (t : List ℕ) × Over k t × IsH k R.same t e
+        × R.same (s ++ t) e × R.same (t ++ s) e }
+    ensures one { (k : ℕ) → IsCongruence k R.same → (e f : List ℕ) → Over k e → Over k f
+        → IsIdempotent R.same e → IsIdempotent R.same f → IsH k R.same e f → R.same e f }
 {}
 
 /// The ideals of an element are what walks from it lead to: in the right Cayley graph, in the left one, in one and

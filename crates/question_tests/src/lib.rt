@@ -6,6 +6,8 @@ mod factors;
 #[cfg(test)]
 mod languages;
 #[cfg(test)]
+mod laws_of_all_words;
+#[cfg(test)]
 mod one_key;
 #[cfg(test)]
 mod star_free_answers;

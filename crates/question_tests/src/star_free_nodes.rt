@@ -65,6 +65,16 @@ fn ab_star(rt: HostRuntime) -> Result<(), Fail> {
     Ok(())
 }
 
+/// The words that end with a: any word, and then a.
+#[test]
+fn ends_with_a(rt: HostRuntime) -> Result<(), Fail> {
+    let alloc = rt.alloc();
+    let list = SfList::of(alloc, &[Empty, Not(0), Letter(0), Cat(1, 2)], 3)?;
+    assert!(rt; list.accepts(&word_of(alloc, &[1, 0])?)?);
+    assert!(rt; !list.accepts(&word_of(alloc, &[0, 1])?)?);
+    Ok(())
+}
+
 /// Words that begin with a, from a list with three nodes too many.
 #[test]
 fn begins_with_a(rt: HostRuntime) -> Result<(), Fail> {

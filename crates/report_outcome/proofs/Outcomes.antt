@@ -1,9 +1,10 @@
 -- From what the work on a file's bytes came to, to how a run ended.
-use Rattle.std.proofs.Common.{◌≡◌, ℕ, ◌+◌, true, false, List, [], ◌++◌, map, Option, Some, None, Result, Ok, Err, inl, inr, refl, ap, ◌∙◌, subst, take, append-nil}
+use Rattle.std.proofs.Common.{◌≡◌, ℕ, ◌+◌, Bool, List, [], ◌++◌, map, Option, Some, None, Result, Ok, Err, inl, inr, refl, sym, ap, ◌∙◌, subst, take, append-nil}
 use Rattle.std.specs.Prelude.{◌↔◌, OnErr}
 use Rattle.std.specs.Io.KnownBytes.{Appends}
 use Rattle.std.proofs.KnownBytes.{Appends-nil}
-use Rattle.syn_outside.specs.NamedFiles.{NamedFiles, HasPrefix}
+use Rattle.syn_outside.specs.NamedFiles.{NamedFiles, Lacks, HasPrefix}
+use Rattle.generated_file.specs.Generated.{generated_text}
 use Rattle.automaton_file.specs.FileText.{SourceText, IsSource, IsRefusal, language_of, most_bytes}
 use Rattle.automaton_file.proofs.SourceLaws.{prefix_spells, prefix_refused}
 use Rattle.command_line.specs.declared.commands.Command.{Command}
@@ -19,12 +20,15 @@ use Rattle.report_buffer.specs.Saying.{Channel, IsSaid, IsBrokenOff}
 use Rattle.report_buffer.proofs.Channels.{broken-after}
 use Rattle.report_sections.specs.declared.sections.Section.{Section}
 use Rattle.report_sections.specs.declared.answering.Answer.{Answer}
-use Rattle.report_outcome.specs.Reports.{Task, task_of, HasMoreSubsets, HasMoreElements, IsWithin, IsStop, Verdict, said, stopped, refused, IsReportOn, IsVerdict}
-use Rattle.report_outcome.specs.Outcome.{IsAboutFile, AreBytesFor, AreReadFor, AsksForFile, IsDue, IsGivenPrefix, Outcome, EndsOn, Ends, ending_of_fault}
+use Rattle.report_outcome.specs.Inputs.{Input, generated, named, input_for, input_of, IsFile, IsGiven, IsMissing, AsksForFile}
+use Rattle.report_outcome.specs.Reports.{Task, task_of, HasMoreSubsets, HasMoreElements, IsWithin, IsStop, IsReportOn, IsVerdict, BeginsReport}
+use Rattle.report_outcome.specs.Outcome.{IsDue, BeginsDue, IsGivenPrefix, Outcome, OutcomeOn, EndsOn, Ends, ending_of_fault}
 use Rattle.report_outcome.specs.declared.ending.Ending.{Ending}
 use Rattle.report_outcome.specs.declared.ending.Ending.TheVariants as ending
 use Rattle.report_outcome.specs.declared.ending.Stop.{Stop}
 use Rattle.report_outcome.specs.declared.ending.Stop.TheVariants as stop
+use Rattle.report_outcome.specs.declared.ending.Verdict.{Verdict}
+use Rattle.report_outcome.specs.declared.ending.Verdict.TheVariants as verdict
 
 unstopped : (request : Request) (source : SourceText) → IsWithin request source
     → (s : Stop) → ¬ IsStop (task_of request) source s
@@ -46,163 +50,183 @@ report_on bytes request source text spelled within says = record {
 }
 
 -- a prefix of a file that is one byte too long, or all of it, has the verdict of the file
-verdict_of_prefix : (file : List ℕ) (task : Task) (v : Verdict)
-    → IsVerdict (take (most_bytes + 1) file) task v → IsVerdict file task v
-verdict_of_prefix file task (said text) on = record {
+verdict_of_prefix : (file : List ℕ) (task : Task) (v : Verdict) (text : List ℕ)
+    → IsVerdict (take (most_bytes + 1) file) task v text → IsVerdict file task v text
+verdict_of_prefix file task (verdict.Said limited) text on = record {
   source = on.source;
   spelled = subst (λ b. IsSource b on.source) (prefix_spells file on.source on.spelled) on.spelled;
   unstopped = on.unstopped;
   report = on.report;
 }
-verdict_of_prefix file task (stopped s) on = record {
-  source = on.source;
-  spelled = subst (λ b. IsSource b on.source) (prefix_spells file on.source on.spelled) on.spelled;
-  passed = on.passed;
-}
-verdict_of_prefix file task (refused at code) h = prefix_refused file at code h
-
--- the verdict on the bytes that were read is that on the bytes that a request is about
-about_read : (c : Command) (held : Option NamedFiles) (bytes : List ℕ) (request : Request)
-    (v : Verdict) → IsVerdict bytes (task_of request) v → AreReadFor c held request bytes
-    → (whole : List ℕ) × AreBytesFor c held request whole × IsVerdict whole (task_of request) v
-about_read command.Generate held bytes request v holds is = (bytes, is, holds)
-about_read other None bytes request v holds prefix = (bytes, tt, holds)
-about_read other (Some files) bytes request v holds (file, named, prefix) = (
-  file,
-  named,
-  verdict_of_prefix file (task_of request) v
-      (subst (λ b. IsVerdict b (task_of request) v) prefix holds),
+verdict_of_prefix file task (verdict.Stopped s) text (on, empty) = (
+  record {
+    source = on.source;
+    spelled = subst (λ b. IsSource b on.source) (prefix_spells file on.source on.spelled)
+        on.spelled;
+    passed = on.passed;
+  },
+  empty,
 )
+verdict_of_prefix file task (verdict.Refused at code) text (h, empty) =
+    (prefix_refused file at code h, empty)
 
--- the verdict on the bytes that were read is due
-due : (held : Option NamedFiles) (words : List (List ℕ)) (bytes : List ℕ) (request : Request)
-    (v : Verdict) → IsVerdict bytes (task_of request) v
-    → IsLine words request → AreReadFor request.command held request bytes
-    → IsDue held words v
-due held words bytes request v holds line read =
-    let whole = about_read request.command held bytes request v holds read in record {
-      request = request;
-      line = line;
-      bytes = whole.0;
-      about = whole.1;
-      holds = whole.2;
-    }
+-- what was read of an input: its bytes have each verdict of those that were read
+pub record HasRead (held : Option NamedFiles) (input : Input) (bytes : List ℕ) : Type 0 where
+  pub whole : List ℕ
+  pub given : IsGiven held input whole
+  pub verdicts : (task : Task) (v : Verdict) (text : List ℕ) → IsVerdict bytes task v text
+      → IsVerdict whole task v text
 
--- as much of the operand's file as is read, for a command about a file
-pub read_of_file : (c : Command) (held : Option NamedFiles) (request : Request) (bytes : List ℕ)
-    → IsAboutFile c → HasPrefix held request.operand (most_bytes + 1) bytes
-    → AreReadFor c held request bytes
-read_of_file command.Generate held request bytes file prefix = absurd file
-read_of_file other held request bytes file prefix = prefix
+-- as much of a file as is read
+has_read_name : (held : Option NamedFiles) (name bytes : List ℕ)
+    → HasPrefix held name (most_bytes + 1) bytes → HasRead held (named name) bytes
+has_read_name None name bytes prefix =
+    record { whole = bytes; given = tt; verdicts = λ task v text holds. holds }
+has_read_name (Some files) name bytes (file, is, prefix) = record {
+  whole = file;
+  given = is;
+  verdicts = λ task v text holds.
+      verdict_of_prefix file task v text (subst (λ b. IsVerdict b task v text) prefix holds);
+}
+
+-- a request for another command is about the file that its operand names
+names_its_file : (c : Command) (size : ℕ) (operand : List ℕ) → ¬ (c ≡ command.Generate)
+    → input_for c size operand ≡ named operand
+names_its_file command.Generate size operand other = absurd (other refl)
+names_its_file other size operand is = refl
+
+pub has_read_file : (held : Option NamedFiles) (request : Request) (bytes : List ℕ)
+    → ¬ (request.command ≡ command.Generate)
+    → HasPrefix held request.operand (most_bytes + 1) bytes
+    → HasRead held (input_of request) bytes
+has_read_file held request bytes other prefix =
+    subst (λ i. HasRead held i bytes)
+    (sym (names_its_file request.command request.size request.operand other))
+    (has_read_name held request.operand bytes prefix)
+
+-- it asks for that file
+pub asks_for_file : (words : List (List ℕ)) (request : Request) → IsLine words request
+    → ¬ (request.command ≡ command.Generate) → AsksForFile words
+asks_for_file words request line other = record {
+  request = request;
+  line = line;
+  file = subst IsFile
+      (sym (names_its_file request.command request.size request.operand other)) tt;
+}
+
+-- and has none where the files lack it
+pub lacks_its_file : (held : Option NamedFiles) (request : Request)
+    → ¬ (request.command ≡ command.Generate) → Lacks held request.operand
+    → IsMissing held (input_of request)
+lacks_its_file held request other lacks =
+    subst (IsMissing held)
+    (sym (names_its_file request.command request.size request.operand other)) lacks
+
+-- the bytes of a generated file are read whole
+pub has_read_generated : (held : Option NamedFiles) (request : Request)
+    → request.command ≡ command.Generate
+    → HasRead held (input_of request) (generated_text request.size)
+has_read_generated held request is =
+    subst (λ c. HasRead held (input_for c request.size request.operand)
+    (generated_text request.size)) (sym is)
+    (record {
+      whole = generated_text request.size;
+      given = refl;
+      verdicts = λ task v text holds. holds;
+    })
+
+module _ (held : Option NamedFiles) (words : List (List ℕ)) (request : Request) (bytes : List ℕ)
+    (line : IsLine words request) (read : HasRead held (input_of request) bytes) where
+  -- the verdict on the bytes that were read is due
+  due : (v : Verdict) (text : List ℕ) → IsVerdict bytes (task_of request) v text
+      → IsDue held words v text
+  due v text holds = record {
+    request = request;
+    line = line;
+    bytes = read.whole;
+    given = read.given;
+    holds = read.verdicts (task_of request) v text holds;
+  }
+
+  begins : (out : List ℕ) → BeginsReport bytes (task_of request) out → BeginsDue held words out
+  begins out (text, on, prefix) = (text, due (verdict.Said text.limited) text.text on, prefix)
+
+  outcome_of_read : (e : Ending) (out : List ℕ) → OutcomeOn bytes (task_of request) e out
+      → Outcome held words e out
+  outcome_of_read (ending.Decided v) out h = due v out h
+  outcome_of_read ending.BadLine out h = absurd h
+  outcome_of_read ending.CannotRead out h = absurd h
+  outcome_of_read ending.CannotWrite out h = begins out h
+  outcome_of_read ending.NoMemory out (inl empty) = inl empty
+  outcome_of_read ending.NoMemory out (inr h) = inr (begins out h)
+
+  -- the bytes were read, and the work done on them
+  pub ends_of_read : (e : Ending) (old new : Option (List ℕ)) → EndsOn bytes request e old new
+      → Ends held words e old new
+  ends_of_read e old new ends = record {
+    out = ends.out;
+    outcome = outcome_of_read e ends.out ends.ended;
+    gained = ends.gained;
+  }
 
 pub ends_refused : (bytes : List ℕ) (request : Request) (at code : ℕ) (old : Option (List ℕ))
-    → IsRefusal bytes at code → EndsOn bytes request (ending.Refused at code) old old
-ends_refused bytes request at code old h = record {
-  out = [];
-  outcome = λ held words line prefix.
-      (due held words bytes request (refused at code) h line prefix, refl);
-  gained = Appends-nil old;
-}
+    → IsRefusal bytes at code
+    → EndsOn bytes request (ending.Decided (verdict.Refused at code)) old old
+ends_refused bytes request at code old h =
+    record { out = []; ended = (h, refl); gained = Appends-nil old }
 
 pub ends_stopped : (bytes : List ℕ) (request : Request) (source : SourceText) (s : Stop)
     (old : Option (List ℕ)) → IsSource bytes source → IsStop (task_of request) source s
-    → EndsOn bytes request (ending.Stopped s) old old
+    → EndsOn bytes request (ending.Decided (verdict.Stopped s)) old old
 ends_stopped bytes request source s old spelled passed = record {
   out = [];
-  outcome = λ held words line prefix. (
-    due held words bytes request (stopped s)
-        (record { source = source; spelled = spelled; passed = passed }) line prefix,
-    refl,
-  );
+  ended = (record { source = source; spelled = spelled; passed = passed }, refl);
   gained = Appends-nil old;
 }
 
 pub ends_without_memory : (bytes : List ℕ) (request : Request) (old : Option (List ℕ))
     → EndsOn bytes request ending.NoMemory old old
 ends_without_memory bytes request old =
-    record { out = []; outcome = λ held words line prefix. inl refl; gained = Appends-nil old }
+    record { out = []; ended = inl refl; gained = Appends-nil old }
 
-pub ends_whole : (bytes : List ℕ) (request : Request) (text : Said) (old new : Option (List ℕ))
-    → IsReportOn bytes (task_of request) text → text.limited ≡ false
-    → Appends old new text.text → EndsOn bytes request ending.Whole old new
-ends_whole bytes request text old new on unlimited gained = record {
+pub ends_said : (bytes : List ℕ) (request : Request) (text : Said) (limited : Bool)
+    (old new : Option (List ℕ)) → IsReportOn bytes (task_of request) text
+    → text.limited ≡ limited → Appends old new text.text
+    → EndsOn bytes request (ending.Decided (verdict.Said limited)) old new
+ends_said bytes request text limited old new on is gained = record {
   out = text.text;
-  outcome = λ held words line prefix.
-      due held words bytes request (said (record { text = text.text; limited = false }))
-      (subst (λ b. IsReportOn bytes (task_of request) (record { text = text.text; limited = b }))
-      unlimited on) line prefix;
-  gained = gained;
-}
-
-pub ends_limited : (bytes : List ℕ) (request : Request) (text : Said) (old new : Option (List ℕ))
-    → IsReportOn bytes (task_of request) text → text.limited ≡ true
-    → Appends old new text.text → EndsOn bytes request ending.Limited old new
-ends_limited bytes request text old new on limited gained = record {
-  out = text.text;
-  outcome = λ held words line prefix.
-      due held words bytes request (said (record { text = text.text; limited = true }))
-      (subst (λ b. IsReportOn bytes (task_of request) (record { text = text.text; limited = b }))
-      limited on) line prefix;
+  ended =
+      subst (λ b. IsReportOn bytes (task_of request) (record { text = text.text; limited = b })) is
+      on;
   gained = gained;
 }
 
 pub ends_cut : (bytes : List ℕ) (request : Request) (text : Said) (old new : Option (List ℕ))
     → IsReportOn bytes (task_of request) text → IsGivenPrefix old new text.text
     → EndsOn bytes request ending.CannotWrite old new
-ends_cut bytes request text old new on cut = record {
-  out = cut.prefix;
-  outcome = λ held words line prefix.
-      (text, due held words bytes request (said text) on line prefix, cut.begins);
-  gained = cut.gained;
-}
+ends_cut bytes request text old new on cut =
+    record { out = cut.prefix; ended = (text, on, cut.begins); gained = cut.gained }
 
 pub ends_short : (bytes : List ℕ) (request : Request) (text : Said) (old new : Option (List ℕ))
     → IsReportOn bytes (task_of request) text → IsGivenPrefix old new text.text
     → EndsOn bytes request ending.NoMemory old new
-ends_short bytes request text old new on cut = record {
-  out = cut.prefix;
-  outcome = λ held words line prefix.
-      inr (text, due held words bytes request (said text) on line prefix, cut.begins);
-  gained = cut.gained;
-}
-
--- the bytes were read, and the work done on them
-pub ends_of_report : (held : Option NamedFiles) (words : List (List ℕ)) (request : Request)
-    (bytes : List ℕ) (e : Ending) (old new : Option (List ℕ))
-    → IsLine words request → AreReadFor request.command held request bytes
-    → EndsOn bytes request e old new → Ends held words e old new
-ends_of_report held words request bytes e old new line read ends = record {
-  out = ends.out;
-  outcome = ends.outcome held words line read;
-  gained = ends.gained;
-}
+ends_short bytes request text old new on cut =
+    record { out = cut.prefix; ended = inr (text, on, cut.begins); gained = cut.gained }
 
 -- an outcome goes along with what is due
-pub outcome-along : (held : Option NamedFiles) (words others : List (List ℕ))
+pub outcome_along : (held : Option NamedFiles) (words others : List (List ℕ))
     → (IsAccepted words ↔ IsAccepted others) → (AsksForFile words → AsksForFile others)
-    → ((v : Verdict) → IsDue held words v → IsDue held others v) → (e : Ending) (out : List ℕ)
-    → Outcome held words e out → Outcome held others e out
-outcome-along held words others accepted file goes ending.Whole out h = goes _ h
-outcome-along held words others accepted file goes ending.BadLine out h =
+    → ((v : Verdict) (text : List ℕ) → IsDue held words v text → IsDue held others v text)
+    → (e : Ending) (out : List ℕ) → Outcome held words e out → Outcome held others e out
+outcome_along held words others accepted file goes (ending.Decided v) out h = goes v out h
+outcome_along held words others accepted file goes ending.BadLine out h =
     (λ line. h.0 (accepted.1 line), h.1)
-outcome-along held words others accepted file goes ending.CannotRead out h = (file h.0, h.1)
-outcome-along held words others accepted file goes (ending.Refused at code) out h = (goes _ h.0, h.1)
-outcome-along held words others accepted file goes (ending.Stopped s) out h = (goes _ h.0, h.1)
-outcome-along held words others accepted file goes ending.Limited out h = goes _ h
-outcome-along held words others accepted file goes ending.CannotWrite out (text, is, begins) =
-    (text, goes _ is, begins)
-outcome-along held words others accepted file goes ending.NoMemory out (inl empty) = inl empty
-outcome-along held words others accepted file goes ending.NoMemory out (inr (text, is, begins)) =
-    inr (text, goes _ is, begins)
-
--- the same of a command about a file
-pub ends_of_file : (held : Option NamedFiles) (words : List (List ℕ)) (request : Request)
-    (bytes : List ℕ) (e : Ending) (old new : Option (List ℕ)) → IsLine words request
-    → IsAboutFile request.command → HasPrefix held request.operand (most_bytes + 1) bytes
-    → EndsOn bytes request e old new → Ends held words e old new
-ends_of_file held words request bytes e old new line file prefix ends =
-    ends_of_report held words request bytes e old new line
-    (read_of_file request.command held request bytes file prefix) ends
+outcome_along held words others accepted file goes ending.CannotRead out h = (file h.0, h.1)
+outcome_along held words others accepted file goes ending.CannotWrite out (text, is, prefix) =
+    (text, goes _ _ is, prefix)
+outcome_along held words others accepted file goes ending.NoMemory out (inl empty) = inl empty
+outcome_along held words others accepted file goes ending.NoMemory out (inr (text, is, prefix)) =
+    inr (text, goes _ _ is, prefix)
 
 -- the answers to the sections of a request, as the report on the bytes
 pub report_of_answers : (bytes : List ℕ) (request : Request) (v : Values) (sections : List Section)

@@ -1,18 +1,13 @@
--- Bytes have one verdict, and the endings that are decided are those of a bad line and of the verdict
--- that is due.
-use Rattle.std.proofs.Common.{◌≡◌, ◌⊎◌, ℕ, true, false, cond, List, [], Option, inl, inr, refl, sym, ap, ◌∙◌, subst}
-use Rattle.std.specs.Prelude.{⊤}
-use Rattle.syn_outside.specs.NamedFiles.{NamedFiles}
+-- Bytes have one verdict.
+use Rattle.std.proofs.Common.{◌≡◌, ℕ, List, sym, ap, ◌∙◌, subst}
 use Rattle.automaton_file.specs.FileText.{SourceText, language_of}
 use Rattle.automaton_file.proofs.SourceLaws.{one_source, one_refusal, refusal_spells_none}
-use Rattle.command_line.specs.Line.{IsAccepted}
-use Rattle.report_sections.specs.Sections.{sections_of, AreSaid}
-use Rattle.report_outcome.specs.Reports.{Task, HasMoreSubsets, IsStop, Verdict, said, stopped, refused, IsVerdict}
-use Rattle.report_outcome.specs.Outcome.{IsDue, Outcome, IsDecided, ending_of, out_of}
-use Rattle.report_outcome.specs.declared.ending.Ending.{Ending}
-use Rattle.report_outcome.specs.declared.ending.Ending.TheVariants as ending
+use Rattle.report_sections.specs.Sections.{Said, sections_of, AreSaid}
+use Rattle.report_outcome.specs.Reports.{Task, HasMoreSubsets, IsStop, IsVerdict}
 use Rattle.report_outcome.specs.declared.ending.Stop.{Stop}
 use Rattle.report_outcome.specs.declared.ending.Stop.TheVariants as stop
+use Rattle.report_outcome.specs.declared.ending.Verdict.{Verdict}
+use Rattle.report_outcome.specs.declared.ending.Verdict.TheVariants as verdict
 use Rattle.report_sections.proofs.OneSection.{one_said}
 
 -- a source has one stop
@@ -26,48 +21,40 @@ one_stop task source (stop.Elements m) (stop.Subsets n) (needs, few, f, k) (e, h
 one_stop task source (stop.Elements m) (stop.Elements n) (needs, few, e, h)
     (needs_too, few_too, f, k) = ap stop.Elements (e ∙ sym f)
 
--- bytes have one verdict
-pub one_verdict : (bytes : List ℕ) (task : Task) (v w : Verdict) → IsVerdict bytes task v
-    → IsVerdict bytes task w → v ≡ w
-one_verdict bytes task (said p) (said q) h k =
+-- bytes have one verdict, with one text
+pub one_verdict : (bytes : List ℕ) (task : Task) (v w : Verdict) (p q : List ℕ)
+    → IsVerdict bytes task v p → IsVerdict bytes task w q → (v ≡ w) × (p ≡ q)
+one_verdict bytes task (verdict.Said l) (verdict.Said m) p q h k =
     let one = one_source bytes h.source k.source h.spelled k.spelled in
     let P : SourceText → Type 0 = λ s. AreSaid (sections_of task.command) task.limits s.letters
-    (language_of s) p in
-    ap said (one_said (sections_of task.command) task.limits k.source.letters (language_of k.source)
-    p q (subst P one h.report) k.report)
-one_verdict bytes task (said p) (stopped t) h k =
+    (language_of s) (record { text = p; limited = l }) in
+    let same = one_said (sections_of task.command) task.limits k.source.letters
+    (language_of k.source) (record { text = p; limited = l }) (record { text = q; limited = m })
+    (subst P one h.report) k.report in
+    (ap (λ (s : Said). verdict.Said s.limited) same, ap (λ (s : Said). s.text) same)
+one_verdict bytes task (verdict.Said l) (verdict.Stopped t) p q h (k, empty) =
     let one = one_source bytes k.source h.source k.spelled h.spelled in
     absurd (h.unstopped t (subst (λ s. IsStop task s t) one k.passed))
-one_verdict bytes task (said p) (refused at code) h k =
+one_verdict bytes task (verdict.Said l) (verdict.Refused at code) p q h (k, empty) =
     absurd (refusal_spells_none bytes h.source at code h.spelled k)
-one_verdict bytes task (stopped s) (said q) h k =
+one_verdict bytes task (verdict.Stopped s) (verdict.Said m) p q (h, empty) k =
     let one = one_source bytes h.source k.source h.spelled k.spelled in
     absurd (k.unstopped s (subst (λ x. IsStop task x s) one h.passed))
-one_verdict bytes task (stopped s) (stopped t) h k =
-    let one = one_source bytes h.source k.source h.spelled k.spelled in
-    ap stopped (one_stop task k.source s t (subst (λ x. IsStop task x s) one h.passed) k.passed)
-one_verdict bytes task (stopped s) (refused at code) h k =
+one_verdict bytes task (verdict.Stopped s) (verdict.Stopped t) p q (h, empty) (k, empty_too) =
+    let one = one_source bytes h.source k.source h.spelled k.spelled in (
+      ap verdict.Stopped
+          (one_stop task k.source s t (subst (λ x. IsStop task x s) one h.passed) k.passed),
+      empty ∙ sym empty_too,
+    )
+one_verdict bytes task (verdict.Stopped s) (verdict.Refused at code) p q (h, empty) (k, empty_too) =
     absurd (refusal_spells_none bytes h.source at code h.spelled k)
-one_verdict bytes task (refused at code) (said q) h k =
+one_verdict bytes task (verdict.Refused at code) (verdict.Said m) p q (h, empty) k =
     absurd (refusal_spells_none bytes k.source at code k.spelled h)
-one_verdict bytes task (refused at code) (stopped t) h k =
+one_verdict bytes task (verdict.Refused at code) (verdict.Stopped t) p q (h, empty) (k, empty_too) =
     absurd (refusal_spells_none bytes k.source at code k.spelled h)
-one_verdict bytes task (refused at code) (refused line other) h k =
-    let same = one_refusal bytes at code line other h k in
-    ap (λ n. refused n code) same.0 ∙ ap (refused line) same.1
-
--- an ending that is decided is that of a bad line, or that of the verdict that is due
-pub decided : (held : Option NamedFiles) (words : List (List ℕ)) (e : Ending) (out : List ℕ)
-    → Outcome held words e out → IsDecided e
-    → ((e ≡ ending.BadLine) × (¬ IsAccepted words) × (out ≡ []))
-    ⊎ ((v : Verdict) × IsDue held words v × (e ≡ ending_of v) × (out ≡ out_of v))
-decided held words ending.Whole out h d =
-    inr (said (record { text = out; limited = false }), h, refl, refl)
-decided held words ending.BadLine out h d = inl (refl, h.0, h.1)
-decided held words ending.CannotRead out h d = absurd d
-decided held words (ending.Refused at code) out h d = inr (refused at code, h.0, refl, h.1)
-decided held words (ending.Stopped s) out h d = inr (stopped s, h.0, refl, h.1)
-decided held words ending.Limited out h d =
-    inr (said (record { text = out; limited = true }), h, refl, refl)
-decided held words ending.CannotWrite out h d = absurd d
-decided held words ending.NoMemory out h d = absurd d
+one_verdict bytes task (verdict.Refused at code) (verdict.Refused line other) p q (h, empty)
+    (k, empty_too) =
+    let same = one_refusal bytes at code line other h k in (
+      ap (λ n. verdict.Refused n code) same.0 ∙ ap (verdict.Refused line) same.1,
+      empty ∙ sym empty_too,
+    )

@@ -1,5 +1,6 @@
 -- What a command on a file has as its answer.
-use Rattle.std.specs.Prelude.{◌≡◌, ℕ, List, length}
+use Rattle.std.specs.Prelude.{◌≡◌, ℕ, List, [], length}
+use Rattle.language_theory.specs.Words.{IsPrefix}
 use Rattle.language_theory.specs.Automaton.{Automaton, SameSubset}
 use Rattle.language_theory.specs.Congruence.{Syntactic}
 use Rattle.language_theory.specs.Representatives.{HasMoreClasses}
@@ -9,6 +10,8 @@ use Rattle.command_line.specs.declared.request.Request.{Request}
 use Rattle.report_sections.specs.Sections.{Limits, limits_of, Said, sections_of, AreSaid}
 use Rattle.report_outcome.specs.declared.ending.Stop.{Stop}
 use Rattle.report_outcome.specs.declared.ending.Stop.TheVariants as stop
+use Rattle.report_outcome.specs.declared.ending.Verdict.{Verdict}
+use Rattle.report_outcome.specs.declared.ending.Verdict.TheVariants as verdict
 use Rattle.report_sections.specs.Needs.{NeedsElements}
 
 -- a command, and the limits within which it is to be answered
@@ -44,13 +47,6 @@ IsStop task source (stop.Elements n) =
     NeedsElements task.command × (¬ HasMoreSubsets source task.limits.subsets)
     × (n ≡ task.limits.elements) × HasMoreElements source n
 
--- what a task on a file has as its answer: what its sections say, or the count that stops it, or
--- the line and the code of a refusal
-pub data Verdict : Type 0 where
-  said : Said → Verdict
-  stopped : Stop → Verdict
-  refused : (at code : ℕ) → Verdict
-
 -- the bytes spell a source that nothing stops, and this is what the sections of the command say
 -- about its language
 pub record IsReportOn (bytes : List ℕ) (task : Task) (text : Said) : Type 0 where
@@ -66,8 +62,13 @@ pub record IsStopOn (bytes : List ℕ) (task : Task) (stop : Stop) : Type 0 wher
   pub spelled : IsSource bytes source
   pub passed : IsStop task source stop
 
--- The table of verdicts.
-abbrev pub IsVerdict : List ℕ → Task → Verdict → Type 0
-IsVerdict bytes task (said text) = IsReportOn bytes task text
-IsVerdict bytes task (stopped stop) = IsStopOn bytes task stop
-IsVerdict bytes task (refused at code) = IsRefusal bytes at code
+-- The table of verdicts: what holds of the bytes, and the text that is due.
+abbrev pub IsVerdict : List ℕ → Task → Verdict → List ℕ → Type 0
+IsVerdict bytes task (verdict.Said limited) text =
+    IsReportOn bytes task (record { text = text; limited = limited })
+IsVerdict bytes task (verdict.Stopped stop) text = IsStopOn bytes task stop × (text ≡ [])
+IsVerdict bytes task (verdict.Refused at code) text = IsRefusal bytes at code × (text ≡ [])
+
+-- a prefix of what the sections say
+abbrev pub BeginsReport : List ℕ → Task → List ℕ → Type 0
+BeginsReport bytes task out = (text : Said) × IsReportOn bytes task text × IsPrefix out text.text

@@ -1,7 +1,7 @@
 //! How a run ends, and what the user is told of it.
 ghost use Rattle.std.specs.Prelude.{◌≡◌, ◌++◌, ◌≤◌, codes, decimal, map};
 ghost use Rattle.std.specs.List.{concat};
-ghost use Rattle.report_outcome.specs.Outcome.{IsTold, status_of, line_of, stop_text};
+ghost use Rattle.report_outcome.specs.Outcome.{IsTold, status_of, status_of_verdict, line_of, line_of_verdict, stop_text};
 
 use syn_outside::{Sink, put_all};
 
@@ -14,21 +14,47 @@ pub enum Stop {
     Elements(u32),
 }
 
+/// What the work on a file's bytes came to.
+#[derive(Clone, Copy, Debug, PartialEq, Eq)]
+pub enum Verdict {
+    /// A text.
+    Said {
+        /// Whether a section of it tells a limit.
+        limited: bool,
+    },
+    /// A count passed its limit, and there is no text.
+    Stopped(Stop),
+    /// The file spells no source.
+    Refused {
+        /// The line, counted from 1; 0 for a file that is too long.
+        line: u32,
+        /// The code of the test that fails there.
+        code: u8,
+    },
+}
+
+impl Verdict {
+    /// The exit status.
+    fn status(self) -> u8
+        ensures { result ≡ status_of_verdict self }
+    {
+        match self {
+            Verdict::Said { limited: false } => 0,
+            Verdict::Said { limited: true } | Verdict::Stopped(_) => 5,
+            Verdict::Refused { .. } => 4,
+        }
+    }
+}
+
 /// How a run ended.
 #[derive(Clone, Copy, Debug, PartialEq, Eq)]
 pub enum Ending {
-    /// The whole text is written.
-    Whole,
+    /// The words and the bytes decided it: the text of the verdict, if it has one, is written whole.
+    Decided(Verdict),
     /// The words are no line.
     BadLine,
     /// The file was not read.
     CannotRead,
-    /// The file spells no source: the line, and the code of the test that fails there.
-    Refused(u32, u8),
-    /// A count passed its limit, and there is no text.
-    Stopped(Stop),
-    /// The whole text is written, and a section of it tells a limit.
-    Limited,
     /// The text was not written to its end.
     CannotWrite,
     /// The system gave no memory.
@@ -41,11 +67,9 @@ impl Ending {
         ensures { result ≡ status_of self }
     {
         match self {
-            Ending::Whole => 0,
+            Ending::Decided(verdict) => verdict.status(),
             Ending::BadLine => 2,
             Ending::CannotRead => 3,
-            Ending::Refused(_, _) => 4,
-            Ending::Stopped(_) | Ending::Limited => 5,
             Ending::CannotWrite => 6,
             Ending::NoMemory => 7,
         }
@@ -59,14 +83,25 @@ pub fn tell<E: Sink>(errs: &mut E, ending: Ending)
     ensures count { E.faults errs.old ≤ E.faults errs.new }
 {
     match ending {
-        Ending::Whole | Ending::Limited => {}
+        Ending::Decided(verdict) => tell_verdict(errs, verdict),
         Ending::BadLine => tell_parts(errs, &["synmon: bad command line\n"]),
         Ending::CannotRead => tell_parts(errs, &["synmon: cannot read\n"]),
-        Ending::Refused(line, code) => tell_refusal(errs, line, code),
-        Ending::Stopped(Stop::Subsets(most)) => tell_stop(errs, "subsets ", most),
-        Ending::Stopped(Stop::Elements(most)) => tell_stop(errs, "elements ", most),
         Ending::CannotWrite => tell_parts(errs, &["synmon: cannot write\n"]),
         Ending::NoMemory => tell_parts(errs, &["synmon: out of memory\n"]),
+    }
+}
+
+/// Writes the line of a verdict.
+fn tell_verdict<E: Sink>(errs: &mut E, verdict: Verdict)
+    ensures told { IsTold (E.written errs.old) (E.written errs.new) (E.faults errs.old)
+        (E.faults errs.new) (line_of_verdict verdict) }
+    ensures count { E.faults errs.old ≤ E.faults errs.new }
+{
+    match verdict {
+        Verdict::Said { .. } => {}
+        Verdict::Stopped(Stop::Subsets(most)) => tell_stop(errs, "subsets ", most),
+        Verdict::Stopped(Stop::Elements(most)) => tell_stop(errs, "elements ", most),
+        Verdict::Refused { line, code } => tell_refusal(errs, line, code),
     }
 }
 

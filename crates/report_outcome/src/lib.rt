@@ -4,5 +4,5 @@
 mod ending;
 mod reporting;
 
-pub use ending::{Ending, Stop, tell};
+pub use ending::{Ending, Stop, Verdict, tell};
 pub use reporting::report;

@@ -1,12 +1,13 @@
 //! The report on a file.
-ghost use Rattle.std.specs.Prelude.{ℕ, List, ◌≡◌, ◌≢◌, ◌≤◌, length, is_some, All, IsTrue, IfOk, IfSome, IsErrOf, OnOk, OnErr};
+ghost use Rattle.std.specs.Prelude.{ℕ, List, ◌≡◌, ◌≢◌, ◌≤◌, ◌↔◌, length, is_some, All, IsTrue, IfOk, IfSome, IsErrOf, OnOk, OnErr};
 ghost use Rattle.std.specs.Io.KnownBytes.{Appends};
+ghost use Rattle.language_theory.specs.Automaton.{Accepts};
 ghost use Rattle.language_theory.specs.Congruence.{Syntactic as SyntacticCongruence};
 ghost use Rattle.language_theory.specs.Nerode.{IsMinimal, accepted};
 ghost use Rattle.language_theory.specs.Representatives.{HasMoreClasses};
 ghost use Rattle.language_theory.specs.ShortlexGraph.{SameNode};
 ghost use Rattle.syn_outside.specs.Counts.{Rose};
-ghost use Rattle.automaton_file.specs.FileText.{source_text, body_text, language_of, IsSource, IsSoundSource, CanBuild};
+ghost use Rattle.automaton_file.specs.FileText.{source_text, body_text, language_of, IsBodyAutomaton, IsSource, IsSoundSource, CanBuild};
 ghost use Rattle.command_line.specs.Line.{IsInRange};
 ghost use Rattle.syntactic_monoid.specs.SyntacticMonoid.{IsSyntacticMonoid};
 ghost use Rattle.report_sections.specs.Sections.{sections_of, IsTableWithin};
@@ -15,8 +16,9 @@ ghost use Rattle.report_sections.specs.Needs.{NeedsElements, NeedsGreen, NeedsTa
 ghost use Rattle.report_outcome.specs.Reports.{HasMoreSubsets, IsWithin};
 ghost use Rattle.report_outcome.specs.Outcome.{EndsOn, IsGivenPrefix};
 
-use crate::ending::{Ending, Stop};
-use automaton_file::{FileFault, Source, body_nfa, read_file};
+use crate::ending::{Ending, Stop, Verdict};
+use automata::Nfa;
+use automaton_file::{Body, FileFault, Source, body_nfa, read_file};
 use cayley_tables::Cayley;
 use command_line::Request;
 use green_relations::{Green, green_of};
@@ -53,7 +55,10 @@ pub fn report<R: Threads + Sync, O: Sink, G: Gate + Sync>(
 {
     match read_file(alloc, bytes) {
         Ok(source) => report_on_source(rt, alloc, &source, request, out, gate),
-        Err(FileFault::Refused(refusal)) => Ending::Refused(refusal.line, refusal.code),
+        Err(FileFault::Refused(refusal)) => Ending::Decided(Verdict::Refused {
+            line: refusal.line,
+            code: refusal.code,
+        }),
         Err(FileFault::Memory) => Ending::NoMemory,
     }
 }
@@ -79,7 +84,7 @@ fn report_on_source<R: Threads + Sync, O: Sink, G: Gate + Sync>(
 {
     match minimal_of(alloc, source, request.subsets) {
         Ok(dfa) => report_on_automaton(rt, alloc, source, &dfa, request, out, gate),
-        Err(MinFault::SubsetLimit) => Ending::Stopped(Stop::Subsets(request.subsets)),
+        Err(MinFault::SubsetLimit) => stopped(Stop::Subsets(request.subsets)),
         Err(MinFault::Memory) => Ending::NoMemory,
     }
 }
@@ -108,7 +113,7 @@ fn report_on_automaton<R: Threads + Sync, O: Sink, G: Gate + Sync>(
 {
     let monoid = match monoid_of(rt, alloc, dfa, request, gate) {
         Ok(monoid) => monoid,
-        Err(SynFault::ElementLimit) => return Ending::Stopped(Stop::Elements(request.elements)),
+        Err(SynFault::ElementLimit) => return stopped(Stop::Elements(request.elements)),
         Err(SynFault::Memory) => return Ending::NoMemory,
     };
     let Ok(green) = classes_of(alloc, &monoid, request) else {
@@ -128,7 +133,14 @@ fn report_on_automaton<R: Threads + Sync, O: Sink, G: Gate + Sync>(
     write_sections(alloc, &values, out)
 }
 
-/// The minimal automaton of a source's language.
+/// The ending where a count passed its limit.
+fn stopped(stop: Stop) -> Ending
+    ensures { result ≡ Ending.Decided (Verdict.Stopped stop) }
+{
+    Ending::Decided(Verdict::Stopped(stop))
+}
+
+/// The minimal automaton of a source's language. The automaton of a file is lent, and that of an expression is built.
 fn minimal_of(alloc: Global, source: &Source, max_subsets: u32) -> Result<MinDfa, MinFault>
     requires subsets { max_subsets ≤ MOST_SUBSETS }
     requires sound { IsSoundSource (source_text source.now) }
@@ -140,8 +152,32 @@ fn minimal_of(alloc: Global, source: &Source, max_subsets: u32) -> Result<MinDfa
     ensures many { IsErrOf result MinFault.SubsetLimit
         → HasMoreSubsets (source_text source.now) max_subsets }
 {
+    if let Body::Nfa(nfa) = &source.body {
+        return minimal_by(alloc, source, nfa, max_subsets);
+    }
     let nfa = body_nfa(alloc, source)?;
-    minimal(alloc, &nfa, max_subsets)
+    minimal_by(alloc, source, &nfa, max_subsets)
+}
+
+/// The minimal automaton of a source's language, by an automaton that is the source's.
+fn minimal_by(
+    alloc: Global,
+    source: &Source,
+    nfa: &Nfa,
+    max_subsets: u32,
+) -> Result<MinDfa, MinFault>
+    requires subsets { max_subsets ≤ MOST_SUBSETS }
+    requires sound { IsSoundSource (source_text source.now) }
+    requires own { IsBodyAutomaton (length source.now.alphabet) (body_text source.now.body) nfa.now }
+    requires language { (w : List ℕ) → Accepts nfa.now w ↔ language_of (source_text source.now) w }
+    ensures minimal { IfOk result (λ dfa. IsMinimal (length source.now.alphabet)
+        (language_of (source_text source.now)) dfa) }
+    ensures size { IfOk result (λ dfa. dfa.graph.size ≤ MOST_SUBSETS) }
+    ensures few { OnOk result (¬ HasMoreSubsets (source_text source.now) max_subsets) }
+    ensures many { IsErrOf result MinFault.SubsetLimit
+        → HasMoreSubsets (source_text source.now) max_subsets }
+{
+    minimal(alloc, nfa, max_subsets)
 }
 
 /// The syntactic monoid of the language that a minimal automaton accepts, if the command needs it. Conditions: the
@@ -255,8 +291,9 @@ fn write_sections<O: Sink>(alloc: Global, values: &Values<'_>, out: &mut O) -> E
     };
     let all = answers.as_slice();
     match print(alloc, values, all, out) {
-        Ok(()) if have_limit(all, values) => Ending::Limited,
-        Ok(()) => Ending::Whole,
+        Ok(()) => Ending::Decided(Verdict::Said {
+            limited: have_limit(all, values),
+        }),
         Err(SayFault::Write) => Ending::CannotWrite,
         Err(SayFault::Memory) => Ending::NoMemory,
     }

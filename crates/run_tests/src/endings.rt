@@ -1,26 +1,30 @@
 //! What is told of each ending, over a sink in memory.
 
-use report_outcome::{Ending, Stop, tell};
+use report_outcome::{Ending, Stop, Verdict, tell};
 use std::test::Fail;
 use syn_outside::MemSink;
 
 /// Each ending, its status and its line.
 const ENDINGS: [(Ending, u8, &str); 9] = [
-    (Ending::Whole, 0, ""),
+    (Ending::Decided(Verdict::Said { limited: false }), 0, ""),
     (Ending::BadLine, 2, "synmon: bad command line\n"),
     (Ending::CannotRead, 3, "synmon: cannot read\n"),
-    (Ending::Refused(12, 7), 4, "synmon: line 12 code 7\n"),
     (
-        Ending::Stopped(Stop::Subsets(16)),
+        Ending::Decided(Verdict::Refused { line: 12, code: 7 }),
+        4,
+        "synmon: line 12 code 7\n",
+    ),
+    (
+        Ending::Decided(Verdict::Stopped(Stop::Subsets(16))),
         5,
         "synmon: limit subsets 16\n",
     ),
     (
-        Ending::Stopped(Stop::Elements(500)),
+        Ending::Decided(Verdict::Stopped(Stop::Elements(500))),
         5,
         "synmon: limit elements 500\n",
     ),
-    (Ending::Limited, 5, ""),
+    (Ending::Decided(Verdict::Said { limited: true }), 5, ""),
     (Ending::CannotWrite, 6, "synmon: cannot write\n"),
     (Ending::NoMemory, 7, "synmon: out of memory\n"),
 ];

@@ -33,11 +33,13 @@ use Rattle.report_outcome.specs.declared.ending.Ending.{Ending}
 use Rattle.report_outcome.specs.declared.ending.Ending.TheVariants as ending
 use Rattle.report_outcome.specs.declared.ending.Stop.{Stop}
 use Rattle.report_sections.specs.Sections.{Limits, limits_of, Said, joined, sections_of, IsSection, AreSections, AreSaid}
-use Rattle.report_outcome.specs.Reports.{Verdict, said, stopped, refused, IsStop, IsVerdict, task_of}
-use Rattle.report_outcome.specs.Outcome.{AreBytesOf, IsDue, Outcome, Ends, status_of}
-use Rattle.synmon_top.specs.Causes.{AreToldFor}
+use Rattle.report_outcome.specs.declared.ending.Verdict.{Verdict}
+use Rattle.report_outcome.specs.declared.ending.Verdict.TheVariants as verdict
+use Rattle.report_outcome.specs.Inputs.{input_of, IsGiven, IsKnown}
+use Rattle.report_outcome.specs.Reports.{IsReportOn, IsStop, IsVerdict, task_of}
+use Rattle.report_outcome.specs.Outcome.{IsDue, Outcome, Ends, status_of}
 use Rattle.synmon_top.specs.Headline.{HasMoreElementsThan, IsTrueOfPowers, IsTrueOfSubwords, IsTrueOfFactors, IsTrueOfRows, IsTrueOfOrder, TellsTruth, TellTruth, Headline}
-use Rattle.synmon_top.proofs.Deciding.{told_bytes}
+use Rattle.synmon_top.proofs.Deciding.{one_given}
 
 module _ (signs : List ℕ) (L : List ℕ → Type 0) where
   above_table : (m : SyntacticMonoid) → IsSyntacticMonoid (length signs) L m → (has : Bool) (most : ℕ)
@@ -179,16 +181,17 @@ module _ (signs : List ℕ) (L : List ℕ → Type 0) where
 
 module _ (held : Option NamedFiles) (words : List (List ℕ)) (old new : Option (List ℕ))
     (request : Request) (bytes : List ℕ) (source : SourceText) (line : IsLine words request)
-    (told : AreToldFor request.command held request bytes) (spelled : IsSource bytes source)
+    (known : IsKnown held (input_of request) bytes) (spelled : IsSource bytes source)
     (unstopped : (stop : Stop) → ¬ IsStop (task_of request) source stop) where
   -- the verdict that is due is the one on these bytes
-  verdict_here : (v : Verdict) → IsDue held words v → IsVerdict bytes (task_of request) v
-  verdict_here v h =
+  verdict_here : (v : Verdict) (text : List ℕ) → IsDue held words v text
+      → IsVerdict bytes (task_of request) v text
+  verdict_here v text h =
       let ask : h.request ≡ request = one_request words h.request request h.line line in
-      let same : bytes ≡ h.bytes = told_bytes request.command held request bytes h.bytes told
-      (subst (λ (r : Request). AreBytesOf held r h.bytes) ask h.about) in
-      subst (λ b. IsVerdict b (task_of request) v) (sym same)
-      (subst (λ (r : Request). IsVerdict h.bytes (task_of r) v) ask h.holds)
+      let same : bytes ≡ h.bytes = one_given held (input_of request) bytes h.bytes known.0 known.1
+      (subst (λ (r : Request). IsGiven held (input_of r) h.bytes) ask h.given) in
+      subst (λ b. IsVerdict b (task_of request) v text) (sym same)
+      (subst (λ (r : Request). IsVerdict h.bytes (task_of r) v text) ask h.holds)
 
   abbrev Prints : Type 0
   Prints = (all : List Said)
@@ -196,40 +199,42 @@ module _ (held : Option NamedFiles) (words : List (List ℕ)) (old new : Option 
       (limits_of request) all
       × Appends old new (joined all).text
 
-  text_true : (text : Said) → IsDue held words (said text) → Appends old new text.text → Prints
-  text_true text h gained =
-      let v = verdict_here (said text) h in
-      let one = one_source bytes v.source source v.spelled spelled in
+  said_true : (text : Said) → IsReportOn bytes (task_of request) text → Appends old new text.text
+      → Prints
+  said_true text on gained =
+      let one = one_source bytes on.source source on.spelled spelled in
       let P : SourceText → Type 0 = λ s. AreSaid (sections_of request.command) (limits_of request)
       s.letters (language_of s) text in
-      let are = subst P one v.report in (
+      let are = subst P one on.report in (
         are.0,
         sections_true source.letters (language_of source) (sections_of request.command)
             (limits_of request) are.0 are.1,
         subst (λ (s : Said). Appends old new s.text) are.2 gained,
       )
 
+  verdict_true : (v : Verdict) (out : List ℕ) → IsVerdict bytes (task_of request) v out
+      → Appends old new out → Prints
+  verdict_true (verdict.Said limited) out h gained =
+      said_true (record { text = out; limited = limited }) h gained
+  verdict_true (verdict.Stopped s) out (h, empty) gained =
+      let one = one_source bytes h.source source h.spelled spelled in
+      absurd (unstopped s (subst (λ (x : SourceText). IsStop (task_of request) x s) one h.passed))
+  verdict_true (verdict.Refused at code) out (h, empty) gained =
+      absurd (refusal_spells_none bytes source at code spelled h)
+
   ending_true : (e : Ending) (out : List ℕ) → Outcome held words e out → Appends old new out
       → status_of e ≢ 3 → status_of e ≢ 6 → status_of e ≢ 7 → Prints
-  ending_true ending.Whole out h g a b c =
-      text_true (record { text = out; limited = false }) h g
-  ending_true ending.BadLine out h g a b c = absurd (h.0 (request, line))
-  ending_true ending.CannotRead out h g a b c = absurd (a refl)
-  ending_true (ending.Refused at code) out h g a b c =
-      absurd (refusal_spells_none bytes source at code spelled
-      (verdict_here (refused at code) h.0))
-  ending_true (ending.Stopped s) out h g a b c =
-      let v = verdict_here (stopped s) h.0 in
-      let one = one_source bytes v.source source v.spelled spelled in
-      absurd (unstopped s (subst (λ (x : SourceText). IsStop (task_of request) x s) one v.passed))
-  ending_true ending.Limited out h g a b c =
-      text_true (record { text = out; limited = true }) h g
-  ending_true ending.CannotWrite out h g a b c = absurd (b refl)
-  ending_true ending.NoMemory out h g a b c = absurd (c refl)
+  ending_true (ending.Decided v) out h gained a b c =
+      verdict_true v out (verdict_here v out h) gained
+  ending_true ending.BadLine out h gained a b c = absurd (h.0 (request, line))
+  ending_true ending.CannotRead out h gained a b c = absurd (a refl)
+  ending_true ending.CannotWrite out h gained a b c = absurd (b refl)
+  ending_true ending.NoMemory out h gained a b c = absurd (c refl)
 
 pub headline : (held : Option NamedFiles) (words : List (List ℕ)) (e : Ending) (status : ℕ)
     (old new : Option (List ℕ)) → status ≡ status_of e → Ends held words e old new
     → Headline held words status old new
-headline held words e status old new is ends request bytes source line told spelled unstopped a b c =
-    ending_true held words old new request bytes source line told spelled unstopped e ends.out
+headline held words e status old new is ends request bytes source line known spelled unstopped a b
+    c =
+    ending_true held words old new request bytes source line known spelled unstopped e ends.out
     ends.outcome ends.gained (λ x. a (is ∙ x)) (λ x. b (is ∙ x)) (λ x. c (is ∙ x))

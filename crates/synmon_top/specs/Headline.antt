@@ -50,7 +50,7 @@ use Rattle.command_line.specs.declared.request.Request.{Request}
 use Rattle.command_line.specs.Line.{IsLine}
 use Rattle.report_sections.specs.Sections.{Limits, limits_of, Said, sections_of, joined, AreBoxesFor, AreCounts, IsTableWithin}
 use Rattle.report_outcome.specs.Reports.{IsStop, task_of}
-use Rattle.synmon_top.specs.Causes.{AreToldFor}
+use Rattle.report_outcome.specs.Inputs.{input_of, IsKnown}
 use Rattle.report_outcome.specs.declared.ending.Stop.{Stop}
 use Rattle.report_sections.specs.declared.sections.Section.{Section}
 use Rattle.report_sections.specs.declared.sections.Section.TheVariants as section
@@ -221,7 +221,7 @@ module _ (signs : List ℕ) (L : List ℕ → Type 0) where
 abbrev pub Headline : Option NamedFiles → List (List ℕ) → ℕ → (old new : Option (List ℕ)) → Type 0
 Headline held words status old new =
     (request : Request) (bytes : List ℕ) (source : SourceText) → IsLine words request
-    → AreToldFor request.command held request bytes → IsSource bytes source
+    → IsKnown held (input_of request) bytes → IsSource bytes source
     → ((stop : Stop) → ¬ IsStop (task_of request) source stop)
     → status ≢ 3 → status ≢ 6 → status ≢ 7
     → (said : List Said)

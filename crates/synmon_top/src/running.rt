@@ -1,11 +1,12 @@
 //! A run of the program, from its words to what it wrote.
-ghost use Rattle.std.specs.Prelude.{◌≡◌, ◌≢◌, ◌⊎◌, ◌≤◌, false, map, string_bytes, IsTrue};
+ghost use Rattle.std.specs.Prelude.{◌≡◌, ◌≢◌, ◌⊎◌, ◌≤◌, ℕ, List, false, map, string_bytes, IsTrue};
 ghost use Rattle.syn_outside.specs.Counts.{Rose};
 ghost use Rattle.command_line.specs.Line.{IsAccepted, IsInRange};
 ghost use Rattle.generated_file.specs.Generated.{generated_text};
-ghost use Rattle.report_outcome.specs.Reports.{Verdict};
-ghost use Rattle.synmon_top.specs.Causes.{AsksToGenerate, HasVerdict, IsAnswered, IsLacking, IsOrNoMemory, IsStatus};
-ghost use Rattle.report_outcome.specs.Outcome.{Ends, EndsOn, IsAboutFile, IsText, Runs, ending_of_fault};
+ghost use Rattle.report_outcome.specs.declared.ending.Verdict.{Verdict};
+ghost use Rattle.report_outcome.specs.Inputs.{AsksForFile};
+ghost use Rattle.report_outcome.specs.Outcome.{Ends, EndsOn, IsDue, IsText, Runs, ending_of_fault};
+ghost use Rattle.synmon_top.specs.Causes.{AreKnown, IsAnswered, IsLacking, IsOrNoMemory, IsStatus};
 ghost use Rattle.synmon_top.specs.Headline.{Headline};
 
 use command_line::{Command, LineFault, Request, read_line};
@@ -43,21 +44,19 @@ pub fn run<R: Threads + Sync, F: Files, O: Sink, E: Sink, G: Gate + Sync>(
     ensures status { IsStatus result }
     ensures bad_line { result ≡ 2 → ¬ IsAccepted (map string_bytes words.now) }
     ensures no_line { (¬ IsAccepted (map string_bytes words.now)) → IsOrNoMemory 2 result }
-    ensures untouched { (¬ IsAccepted (map string_bytes words.now))
-        → (F.ready files.new ≡ F.ready files.old) × (F.left files.new ≡ F.left files.old)
-        × (F.faults files.new ≡ F.faults files.old) }
-    ensures generated { AsksToGenerate (map string_bytes words.now)
+    ensures untouched { (¬ AsksForFile (map string_bytes words.now))
         → (F.ready files.new ≡ F.ready files.old) × (F.left files.new ≡ F.left files.old)
         × (F.faults files.new ≡ F.faults files.old) }
     ensures cannot_read { result ≡ 3 → Rose (F.faults files.old) (F.faults files.new)
         ⊎ IsLacking (F.held files.old) (map string_bytes words.now) }
     ensures lacking { IsLacking (F.held files.old) (map string_bytes words.now)
         → IsOrNoMemory 3 result }
-    ensures decided { (verdict : Verdict)
-        → HasVerdict (F.held files.old) (map string_bytes words.now) verdict
+    ensures decided { (verdict : Verdict) (text : List ℕ)
+        → AreKnown (F.held files.old) (map string_bytes words.now)
+        → IsDue (F.held files.old) (map string_bytes words.now) verdict text
         → (¬ Rose (F.faults files.old) (F.faults files.new))
         → (IsText verdict → ¬ Rose (O.faults out.old) (O.faults out.new))
-        → IsAnswered verdict result (O.written out.old) (O.written out.new) }
+        → IsAnswered verdict text result (O.written out.old) (O.written out.new) }
     ensures cannot_write { result ≡ 6 → Rose (O.faults out.old) (O.faults out.new) }
     ensures held { F.held files.new ≡ F.held files.old }
     ensures files_count { F.faults files.old ≤ F.faults files.new }
@@ -80,10 +79,7 @@ fn answer<R: Threads + Sync, F: Files, O: Sink, G: Gate + Sync>(
 ) -> Ending
     ensures ends { Ends (F.held files.old) (map string_bytes words.now) result (O.written out.old)
         (O.written out.new) }
-    ensures untouched { (¬ IsAccepted (map string_bytes words.now))
-        → (F.ready files.new ≡ F.ready files.old) × (F.left files.new ≡ F.left files.old)
-        × (F.faults files.new ≡ F.faults files.old) }
-    ensures generated { AsksToGenerate (map string_bytes words.now)
+    ensures untouched { (¬ AsksForFile (map string_bytes words.now))
         → (F.ready files.new ≡ F.ready files.old) × (F.left files.new ≡ F.left files.old)
         × (F.faults files.new ≡ F.faults files.old) }
     ensures cannot_read { result ≡ Ending.CannotRead
@@ -113,7 +109,7 @@ fn answer<R: Threads + Sync, F: Files, O: Sink, G: Gate + Sync>(
 /// Whether a command is about a generated file.
 fn is_generated(command: Command) -> bool
     ensures generated { IsTrue result → command ≡ Command.Generate }
-    ensures file { (result ≡ false) → IsAboutFile command }
+    ensures other { (result ≡ false) → ¬ (command ≡ Command.Generate) }
 {
     match command {
         Command::Generate => true,

@@ -20,12 +20,12 @@ returns-in-Err-ElementLimit-clause-ends g c = λ bytes spelled.
     let needed : NeedsElements r.command = search rules in
     let more : HasMoreClasses d.graph.letters (Syntactic d.graph.letters (accepted d)) r.elements =
     search rules in
-    ends_stopped _ r source (stop.Elements r.elements) _ spelled (
+    rw c.stopped.ensures (ends_stopped _ r source (stop.Elements r.elements) _ spelled (
       needed,
       c.requires.few,
       refl,
       many_elements source d r.elements c.requires.minimal more,
-    )
+    ))
 
 pub write_sections-requires-clause-values : goal.write_sections-requires-clause-values
 write_sections-requires-clause-values g c = record {

@@ -10,4 +10,4 @@ returns-in-Err-SubsetLimit-clause-ends g c = λ bytes spelled.
     let r = c.args.request.now in
     let source = source_text c.args.source.now in
     let more : HasMoreSubsets source r.subsets = search rules in
-    ends_stopped _ r source (stop.Subsets r.subsets) _ spelled (refl, more)
+    rw c.stopped.ensures (ends_stopped _ r source (stop.Subsets r.subsets) _ spelled (refl, more))

@@ -3,7 +3,7 @@ use Rattle.std.specs.Io.KnownBytes.{Appends}
 use Rattle.report_sections.specs.Answers.{Values, values_of, said_of_all}
 use Rattle.report_outcome.specs.Outcome.{IsGivenPrefix}
 use Rattle.report_sections.specs.declared.answering.Answer.{Answer}
-use Rattle.report_outcome.proofs.Outcomes.{ends_whole, ends_limited, ends_cut, ends_short, ends_without_memory, report_of_answers}
+use Rattle.report_outcome.proofs.Outcomes.{ends_said, ends_cut, ends_short, ends_without_memory, report_of_answers}
 use Rattle.report_outcome.proofs.reporting.write_sections.Goals as goal
 
 pub returns-in-Ok-print-clause-ends : goal.returns-in-Ok-print-clause-ends
@@ -11,26 +11,13 @@ returns-in-Ok-print-clause-ends g c = λ bytes spelled within.
     let v : Values = values_of c.args.values.now in
     let on = report_of_answers bytes c.args.values.now.request.now v _
     c.in-Ok.answers.items spelled within c.sections_of-sections.ensures refl c.in-Ok.ensures.said in
-    ends_limited _ _ (said_of_all v c.in-Ok.answers.items) _ _ on
+    ends_said _ _ (said_of_all v c.in-Ok.answers.items) _ _ _ on
     (ap (λ (answers : List Answer). (said_of_all v answers).limited)
-    (sym c.as_slice-all.ensures.value) ∙ sym c.have_limit.ensures ∙ c.if-have_limit.true)
+    (sym c.as_slice-all.ensures.value) ∙ sym c.have_limit.ensures)
     (let P : List Answer → Type 0 = λ answers.
     Appends (g.O.Sink.written c.args.out.now) (g.O.Sink.written c.print.new.out)
     (said_of_all v answers).text in
     subst P c.as_slice-all.ensures.value c.in-Ok-print.ensures.whole)
-
-pub returns-in-Ok-2-clause-ends : goal.returns-in-Ok-2-clause-ends
-returns-in-Ok-2-clause-ends g c = λ bytes spelled within.
-    let v : Values = values_of c.args.values.now in
-    let on = report_of_answers bytes c.args.values.now.request.now v _
-    c.in-Ok.answers.items spelled within c.sections_of-sections.ensures refl c.in-Ok.ensures.said in
-    ends_whole _ _ (said_of_all v c.in-Ok.answers.items) _ _ on
-    (ap (λ (answers : List Answer). (said_of_all v answers).limited)
-    (sym c.as_slice-all.ensures.value) ∙ sym c.have_limit.ensures ∙ c.if-have_limit.false)
-    (let P : List Answer → Type 0 = λ answers.
-    Appends (g.O.Sink.written c.args.out.now) (g.O.Sink.written c.print.new.out)
-    (said_of_all v answers).text in
-    subst P c.as_slice-all.ensures.value c.in-Ok-2.ensures.whole)
 
 pub returns-in-Err-Write-clause-ends : goal.returns-in-Err-Write-clause-ends
 returns-in-Err-Write-clause-ends g c = λ bytes spelled within.
