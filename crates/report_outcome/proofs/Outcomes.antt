@@ -15,7 +15,8 @@ use Rattle.command_line.specs.declared.fault.LineFault.TheVariants as line
 use Rattle.command_line.specs.Line.{IsLine, IsAccepted, IsFaultOf}
 use Rattle.command_line.proofs.Lines.{line_without_fault}
 use Rattle.report_sections.specs.Sections.{Limits, Said, sections_of, limits_of, AreSections, AreSaid}
-use Rattle.report_sections.specs.Answers.{Values, said_of, said_of_all}
+use Rattle.report_sections.specs.Answers.{said_of, said_of_all}
+use Rattle.report_sections.proofs.Joining.{said_of_all_joins}
 use Rattle.report_buffer.specs.Saying.{Channel, IsSaid, IsBrokenOff}
 use Rattle.report_buffer.proofs.Channels.{broken-after}
 use Rattle.report_sections.specs.declared.sections.Section.{Section}
@@ -229,20 +230,21 @@ outcome_along held words others accepted file goes ending.NoMemory out (inr (tex
     inr (text, goes _ _ is, prefix)
 
 -- the answers to the sections of a request, as the report on the bytes
-pub report_of_answers : (bytes : List ℕ) (request : Request) (v : Values) (sections : List Section)
-    (answers : List Answer) → IsSource bytes v.source
-    → IsWithin request v.source → sections ≡ sections_of request.command
-    → v.limits ≡ limits_of request
-    → AreSections sections v.limits v.source.letters (language_of v.source)
-    (map (said_of v) answers)
-    → IsReportOn bytes (task_of request) (said_of_all v answers)
-report_of_answers bytes request v sections answers spelled within same limits are =
-    let P : List Section → Type 0 = λ ss. AreSections ss (limits_of request) v.source.letters
-    (language_of v.source) (map (said_of v) answers) in
-    let Q : Limits → Type 0 = λ l. AreSections sections l v.source.letters (language_of v.source)
-    (map (said_of v) answers) in
-    report_on bytes request v.source (said_of_all v answers) spelled within
-    (map (said_of v) answers, subst P same (subst Q limits are), refl)
+pub report_of_answers : (bytes : List ℕ) (request : Request) (source : SourceText)
+    (sections : List Section) (answers : List Answer) → IsSource bytes source
+    → IsWithin request source → sections ≡ sections_of request.command
+    → AreSections sections (limits_of request) source.letters (language_of source)
+    (map (said_of source.letters (limits_of request)) answers)
+    → IsReportOn bytes (task_of request) (said_of_all source.letters (limits_of request) answers)
+report_of_answers bytes request source sections answers spelled within same are =
+    let P : List Section → Type 0 = λ ss. AreSections ss (limits_of request) source.letters
+    (language_of source) (map (said_of source.letters (limits_of request)) answers) in
+    report_on bytes request source (said_of_all source.letters (limits_of request) answers) spelled
+    within (
+      map (said_of source.letters (limits_of request)) answers,
+      subst P same are,
+      said_of_all_joins source.letters (limits_of request) answers,
+    )
 
 -- said into an empty buffer, and then written to a prefix
 pub prefix_given : {a b c : Channel} {text : List ℕ} → a.buffer.bytes ≡ [] → IsSaid a b text

@@ -12,7 +12,7 @@ use Rattle.report_outcome.specs.declared.ending.Stop.{Stop}
 use Rattle.report_outcome.specs.declared.ending.Stop.TheVariants as stop
 use Rattle.report_outcome.specs.declared.ending.Verdict.{Verdict}
 use Rattle.report_outcome.specs.declared.ending.Verdict.TheVariants as verdict
-use Rattle.report_sections.specs.Needs.{NeedsElements}
+use Rattle.report_sections.specs.CommandNeeds.{NeedsElements}
 
 -- a command, and the limits within which it is to be answered
 pub record Task : Type 0 where

@@ -10,9 +10,9 @@ ghost use Rattle.syn_outside.specs.Counts.{Rose};
 ghost use Rattle.automaton_file.specs.FileText.{source_text, body_text, language_of, IsBodyAutomaton, IsSource, IsSoundSource, CanBuild};
 ghost use Rattle.command_line.specs.Line.{IsInRange};
 ghost use Rattle.syntactic_monoid.specs.SyntacticMonoid.{IsSyntacticMonoid};
-ghost use Rattle.report_sections.specs.Sections.{sections_of, IsTableWithin};
+ghost use Rattle.report_sections.specs.Sections.{limits_of, sections_of, IsTableWithin};
 ghost use Rattle.report_sections.specs.Answers.{AreValues, HasNeeds, AreClassesOf, IsSayable, values_of, said_of_all};
-ghost use Rattle.report_sections.specs.Needs.{NeedsElements, NeedsGreen, NeedsTable};
+ghost use Rattle.report_sections.specs.CommandNeeds.{NeedsElements, NeedsGreen, NeedsTable};
 ghost use Rattle.report_outcome.specs.Reports.{HasMoreSubsets, IsWithin};
 ghost use Rattle.report_outcome.specs.Outcome.{EndsOn, IsGivenPrefix};
 
@@ -32,7 +32,7 @@ use std::alloc::Global;
 use std::thread::Threads;
 use subset_minimal::{MOST_SUBSETS, MinDfa, MinFault, minimal};
 use syn_outside::{Gate, Sink};
-use syn_words::Memory;
+use syn_words::{Alphabet, Memory};
 use syntactic_enumeration::{SynFault, syntactic_of};
 use syntactic_monoid::Syntactic;
 
@@ -290,9 +290,9 @@ fn write_sections<O: Sink>(alloc: Global, values: &Values<'_>, out: &mut O) -> E
         return Ending::NoMemory;
     };
     let all = answers.as_slice();
-    match print(alloc, values, all, out) {
+    match print(alloc, &values.source.alphabet, values.request, all, out) {
         Ok(()) => Ending::Decided(Verdict::Said {
-            limited: have_limit(all, values),
+            limited: have_limit(all),
         }),
         Err(SayFault::Write) => Ending::CannotWrite,
         Err(SayFault::Memory) => Ending::NoMemory,
@@ -302,21 +302,21 @@ fn write_sections<O: Sink>(alloc: Global, values: &Values<'_>, out: &mut O) -> E
 /// Writes the sections of the answers.
 fn print<O: Sink>(
     alloc: Global,
-    values: &Values<'_>,
-    answers: &[Answer],
+    alphabet: &Alphabet,
+    request: &Request,
+    answers: &[Answer<'_>],
     out: &mut O,
 ) -> Result<(), SayFault>
-    requires values { AreValues (values_of values.now) }
-    requires sayable { All (IsSayable (values_of values.now)) answers.now }
+    requires { All (IsSayable alphabet.now) answers.now }
     ensures whole { OnOk result (Appends (O.written out.old) (O.written out.new)
-        (said_of_all (values_of values.now) answers.now).text) }
+        (said_of_all alphabet.now (limits_of request.now) answers.now).text) }
     ensures cut { OnErr result (IsGivenPrefix (O.written out.old) (O.written out.new)
-        (said_of_all (values_of values.now) answers.now).text) }
+        (said_of_all alphabet.now (limits_of request.now) answers.now).text) }
     ensures failed { IsErrOf result SayFault.Write → Rose (O.faults out.old) (O.faults out.new) }
     ensures count { O.faults out.old ≤ O.faults out.new }
 {
     let mut buffer = Buffer::new(alloc)?;
-    say_answers(alloc, out, &mut buffer, values, answers)?;
+    say_answers(alloc, out, &mut buffer, alphabet, request, answers)?;
     flush(out, &mut buffer)?;
     Ok(())
 }

@@ -6,4 +6,4 @@ pub mod Rules
 pub mod Recognised
 pub mod Locals
 pub mod OneSection
-pub mod Needs
+pub mod CommandNeeds

@@ -1,7 +1,6 @@
 -- What is answered of local submonoids, and the words of its witnesses.
-use Rattle.std.proofs.Common.{◌≡◌, ◌↔◌, ◌≤◌, ◌<◌, ℕ, Bool, IsTrue, List, Option, Some, None, length, refl, sym, subst, arith}
+use Rattle.std.proofs.Common.{◌≡◌, ◌↔◌, ◌≤◌, ◌<◌, ℕ, Bool, IsTrue, List, length, sym, subst}
 use Rattle.std.specs.Cmp.{both_ways}
-use Rattle.std.specs.Prelude.{is_some}
 use Rattle.language_theory.specs.Congruence.{Syntactic}
 use Rattle.language_theory.specs.Representatives.{AreRepresentatives}
 use Rattle.language_theory.specs.Words.{Over, word_at}
@@ -13,10 +12,8 @@ use Rattle.answers.specs.declared.factors.LtWitness.{LtWitness}
 use Rattle.local_submonoids.specs.Witness.{IsWitnessOf}
 use Rattle.locally_testable.specs.Answer.{IsLocalAnswer}
 use Rattle.locally_testable.proofs.OneAnswer.{one_local_answer}
-use Rattle.parallel_table.specs.ProductTables.{ProductTable}
 use Rattle.syntactic_monoid.specs.SyntacticMonoid.{SyntacticMonoid, IsSyntacticMonoid}
 use Rattle.report_text.specs.LocalSection.{IsLocalWitnessOver, IsLocalOver}
-use Rattle.report_sections.specs.Sections.{IsTableWithin}
 
 module _ (k : ℕ) (L : List ℕ → Type 0) where
   -- one answer, where there is a table exactly within its limit
@@ -69,10 +66,3 @@ module _ (k : ℕ) (L : List ℕ → Type 0) where
     local_over has last pairs (answer.Wide n) h = tt
     local_over has last pairs (answer.Pairs n) h = tt
     local_over has last pairs (answer.NoneTo n) h = tt
-
--- there is a table exactly within its limit
-pub table_within : (most : ℕ) (same : List ℕ → List ℕ → Type 0) (words : List (List ℕ))
-    (t : Option ProductTable) → IsTableWithin most same words t
-    → IsTrue (is_some t) ↔ (length words ≤ most)
-table_within most same words None h = (λ e. cc, λ l. absurd (omega (arith, h, l)))
-table_within most same words (Some t) h = (λ e. h.0, λ l. refl)

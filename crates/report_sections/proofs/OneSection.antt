@@ -1,8 +1,7 @@
 -- A section says one thing of a language, and so do several together.
-use Rattle.std.proofs.Common.{◌≡◌, ℕ, Bool, List, [], ◌∷◌, refl, sym, ap, ◌∙◌, subst, length}
-use Rattle.std.specs.Prelude.{◌||◌}
+use Rattle.std.proofs.Common.{◌≡◌, ℕ, Bool, List, [], ◌∷◌, Option, refl, sym, ap, ◌∙◌, subst, length}
 use Rattle.language_theory.specs.Congruence.{Syntactic}
-use Rattle.language_theory.specs.Nerode.{MinimalAutomaton}
+use Rattle.language_theory.specs.Nerode.{MinimalAutomaton, IsMinimal}
 use Rattle.language_theory.proofs.Minimal.{one_minimal}
 use Rattle.syntactic_monoid.specs.SyntacticMonoid.{SyntacticMonoid}
 use Rattle.syntactic_monoid.proofs.OneMonoid.{monoids_are_one}
@@ -11,14 +10,21 @@ use Rattle.report_text.specs.MonoidSection.{monoid_text}
 use Rattle.report_text.specs.GreenSection.{marked, green_text, marks_below}
 use Rattle.report_text.specs.SummarySection.{summary_text}
 use Rattle.report_text.specs.declared.summary_section.Counts.{Counts}
+use Rattle.report_text.specs.declared.summary_section.Summary.{Summary}
 use Rattle.report_text.specs.StarFreeSection.{star_free_text, is_star_free_limit}
 use Rattle.report_text.specs.PiecewiseSection.{piecewise_text, is_piecewise_limit, r_trivial_text}
 use Rattle.report_text.specs.LocalSection.{local_text, is_local_limit}
 use Rattle.report_text.specs.CommutativeSection.{commutative_text}
+use Rattle.answers.specs.declared.powers.SfAnswer.{SfAnswer}
+use Rattle.answers.specs.declared.factors.LtAnswer.{LtAnswer}
+use Rattle.answers.specs.declared.subwords.PtAnswer.{PtAnswer}
+use Rattle.answers.specs.declared.subwords.PtWitness.{PtWitness}
+use Rattle.answers.specs.declared.commuting.CWitness.{CWitness}
+use Rattle.piecewise_testable.specs.Commuting.{IsCommutativeAnswer}
 use Rattle.piecewise_testable.proofs.OneAnswer.{one_piecewise_answer, one_r_trivial_answer, one_commutative_answer}
 use Rattle.report_sections.specs.declared.sections.Section.{Section}
 use Rattle.report_sections.specs.declared.sections.Section.TheVariants as section
-use Rattle.report_sections.specs.Sections.{Limits, Said, joined, IsSection, IsStarFreeSection, IsPiecewiseSection, IsLocalSection, IsRTrivialSection, IsCommutativeSection, IsSummarySection, AreCounts, AreSections, AreSaid, IsTableWithin, AreBoxesFor}
+use Rattle.report_sections.specs.Sections.{Limits, Said, TellsAnswer, never, joined, is_summary_limit, AnswersStarFree, AnswersPiecewise, AnswersLocal, AnswersRTrivial, AnswersAll, IsSection, IsSummarySection, AreCounts, AreSections, AreSaid, IsTableWithin, AreBoxesFor}
 use Rattle.report_sections.proofs.Rules.{rules_are_one_too}
 use Rattle.report_sections.proofs.Locals.{one_answer_of_tables}
 use Rattle.report_sections.proofs.StarFreeLists.{one_answer_of_lists}
@@ -30,53 +36,55 @@ same_said p q h k =
     ap (λ t. let x : Said = record { text = t; limited = p.limited } in x) h
     ∙ ap (λ b. let x : Said = record { text = q.text; limited = b } in x) k
 
-one_star_free : (limits : Limits) (signs : List ℕ) (L : List ℕ → Type 0) (p q : Said)
-    → IsStarFreeSection limits signs L p → IsStarFreeSection limits signs L q → p ≡ q
-one_star_free limits signs L p q h k =
-    let monoid = monoids_are_one (length signs) L h.monoid k.monoid h.syntactic k.syntactic in
-    let answer = one_answer_of_lists (length signs) L h.monoid k.monoid monoid h.syntactic
-    h.has_table k.has_table limits.table h.table k.table limits.nodes h.answer k.answer h.answered
-    k.answered in
-    same_said p q
-    (h.text ∙ ap (star_free_text signs limits.table limits.nodes) answer ∙ sym k.text)
-    (h.limited ∙ ap is_star_free_limit answer ∙ sym k.limited)
+-- where there is one right answer, one thing is said
+one_telling : {A : Type 0} (Right : A → Type 0) (text : A → List ℕ) (limit : A → Bool)
+    → ((a b : A) → Right a → Right b → a ≡ b) → (p q : Said) → TellsAnswer Right text limit p
+    → TellsAnswer Right text limit q → p ≡ q
+one_telling Right text limit one p q h k =
+    let same = one h.answer k.answer h.right k.right in
+    same_said p q (h.text ∙ ap text same ∙ sym k.text) (h.limited ∙ ap limit same ∙ sym k.limited)
 
-one_piecewise : (limits : Limits) (signs : List ℕ) (L : List ℕ → Type 0) (p q : Said)
-    → IsPiecewiseSection limits signs L p → IsPiecewiseSection limits signs L q → p ≡ q
-one_piecewise limits signs L p q h k =
-    let answer = one_piecewise_answer (length signs) L limits.pairs limits.level h.answer k.answer
-    h.answered k.answered in
-    same_said p q
-    (h.text ∙ ap (piecewise_text signs) answer ∙ sym k.text)
-    (h.limited ∙ ap is_piecewise_limit answer ∙ sym k.limited)
+abbrev answers_with : SfAnswer → PtAnswer → LtAnswer → Option PtWitness → Option CWitness → Summary
+answers_with s p l r c =
+    record { star_free = s; piecewise = p; local = l; r_trivial = r; commutative = c }
 
-one_local : (limits : Limits) (signs : List ℕ) (L : List ℕ → Type 0) (p q : Said)
-    → IsLocalSection limits signs L p → IsLocalSection limits signs L q → p ≡ q
-one_local limits signs L p q h k =
-    let monoid = monoids_are_one (length signs) L h.monoid k.monoid h.syntactic k.syntactic in
-    let answer = one_answer_of_tables (length signs) L h.monoid k.monoid monoid h.syntactic
-    h.has_table k.has_table limits.table h.table k.table limits.level limits.pairs h.answer
-    k.answer h.answered k.answered in
-    same_said p q
-    (h.text ∙ ap (local_text signs limits.table) answer ∙ sym k.text)
-    (h.limited ∙ ap is_local_limit answer ∙ sym k.limited)
+module _ (limits : Limits) (k : ℕ) (L : List ℕ → Type 0) where
+  one_star_free : (a b : SfAnswer) → AnswersStarFree limits k L a → AnswersStarFree limits k L b
+      → a ≡ b
+  one_star_free a b h g =
+      one_answer_of_lists k L h.monoid g.monoid
+      (monoids_are_one k L h.monoid g.monoid h.syntactic g.syntactic) h.syntactic h.has_table
+      g.has_table limits.table h.table g.table limits.nodes a b h.answered g.answered
 
-one_r_trivial : (signs : List ℕ) (L : List ℕ → Type 0) (p q : Said)
-    → IsRTrivialSection signs L p → IsRTrivialSection signs L q → p ≡ q
-one_r_trivial signs L p q h k =
-    let answer = one_r_trivial_answer (length signs) L h.answer k.answer h.answered k.answered in
-    same_said p q
-    (h.text ∙ ap (r_trivial_text signs) answer ∙ sym k.text)
-    (h.unlimited ∙ sym k.unlimited)
+  one_piecewise : (a b : PtAnswer) → AnswersPiecewise limits k L a → AnswersPiecewise limits k L b
+      → a ≡ b
+  one_piecewise a b h g =
+      one_piecewise_answer k L limits.pairs limits.level a b h.answered g.answered
 
-one_commutative : (signs : List ℕ) (L : List ℕ → Type 0) (p q : Said)
-    → IsCommutativeSection signs L p → IsCommutativeSection signs L q → p ≡ q
-one_commutative signs L p q h k =
-    let answer = one_commutative_answer (length signs) L h.answer k.answer h.answered
-    k.answered in
-    same_said p q
-    (h.text ∙ ap (commutative_text signs) answer ∙ sym k.text)
-    (h.unlimited ∙ sym k.unlimited)
+  one_local : (a b : LtAnswer) → AnswersLocal limits k L a → AnswersLocal limits k L b → a ≡ b
+  one_local a b h g =
+      one_answer_of_tables k L h.monoid g.monoid
+      (monoids_are_one k L h.monoid g.monoid h.syntactic g.syntactic) h.syntactic h.has_table
+      g.has_table limits.table h.table g.table limits.level limits.pairs a b h.answered g.answered
+
+  one_r_trivial : (a b : Option PtWitness) → AnswersRTrivial limits k L a
+      → AnswersRTrivial limits k L b → a ≡ b
+  one_r_trivial a b h g = one_r_trivial_answer k L a b h.answered g.answered
+
+  one_summary_answers : (a b : Summary) → AnswersAll limits k L a → AnswersAll limits k L b → a ≡ b
+  one_summary_answers a b h g =
+      same_answers a.star_free b.star_free a.piecewise b.piecewise a.local b.local a.r_trivial
+      b.r_trivial a.commutative b.commutative
+      (one_star_free a.star_free b.star_free h.star_free g.star_free)
+      (one_piecewise a.piecewise b.piecewise h.piecewise g.piecewise)
+      (one_local a.local b.local h.local g.local)
+      (one_r_trivial a.r_trivial b.r_trivial h.r_trivial g.r_trivial)
+      (one_commutative_answer k L a.commutative b.commutative h.commutative g.commutative)
+    where
+      same_answers : (s t : SfAnswer) (p q : PtAnswer) (l m : LtAnswer) (r u : Option PtWitness)
+          (c d : Option CWitness) → s ≡ t → p ≡ q → l ≡ m → r ≡ u → c ≡ d
+          → answers_with s p l r c ≡ answers_with t q m u d
+      same_answers s t p q l m r u c d e f g h i = cc (e, f, g, h, i)
 
 abbrev counts_with : ℕ → ℕ → ℕ → ℕ → ℕ → ℕ → Counts
 counts_with size states elements rules boxes idempotents = record {
@@ -122,35 +130,19 @@ one_summary : (limits : Limits) (signs : List ℕ) (L : List ℕ → Type 0) (p 
     → IsSummarySection limits signs L p → IsSummarySection limits signs L q → p ≡ q
 one_summary limits signs L p q h k =
     let counts = one_counts limits.size signs L h.counts k.counts h.counted k.counted in
-    let a = one_star_free limits signs L h.star_free k.star_free h.star_free_said k.star_free_said in
-    let b = one_piecewise limits signs L h.piecewise k.piecewise h.piecewise_said k.piecewise_said in
-    let c = one_local limits signs L h.local k.local h.local_said k.local_said in
-    let d = one_r_trivial signs L h.r_trivial k.r_trivial h.r_trivial_said k.r_trivial_said in
-    let e = one_commutative signs L h.commutative k.commutative h.commutative_said
-    k.commutative_said in
+    let answers = one_summary_answers limits (length signs) L h.answers k.answers h.answered
+    k.answered in
     same_said p q
-    (h.text ∙ same_text h.counts k.counts h.star_free k.star_free h.piecewise k.piecewise h.local
-    k.local h.r_trivial k.r_trivial h.commutative k.commutative counts a b c d e ∙ sym k.text)
-    (h.limited ∙ same_limit h.star_free k.star_free h.piecewise k.piecewise h.local k.local a b c
-    ∙ sym k.limited)
-  where
-    same_text : (x y : Counts) (a b c d e f g h i j : Said) → x ≡ y → a ≡ b → c ≡ d → e ≡ f → g ≡ h
-        → i ≡ j → summary_text x a.text c.text e.text g.text i.text
-        ≡ summary_text y b.text d.text f.text h.text j.text
-    same_text x y a b c d e f g h i j o p q r s t = rw (o, p, q, r, s, t) refl
-
-    same_limit : (a b c d e f : Said) → a ≡ b → c ≡ d → e ≡ f
-        → (a.limited || (c.limited || e.limited)) ≡ (b.limited || (d.limited || f.limited))
-    same_limit a b c d e f p q r = rw (p, q, r) refl
+    (h.text ∙ ap (λ n. summary_text n limits.table limits.nodes h.answers) counts
+    ∙ ap (summary_text k.counts limits.table limits.nodes) answers ∙ sym k.text)
+    (h.limited ∙ ap is_summary_limit answers ∙ sym k.limited)
 
 -- a section says one thing
 one_section : (s : Section) (limits : Limits) (signs : List ℕ) (L : List ℕ → Type 0) (p q : Said)
     → IsSection s limits signs L p → IsSection s limits signs L q → p ≡ q
 one_section section.Automaton limits signs L p q h k =
-    same_said p q
-    (h.text ∙ ap (automaton_text signs)
-    (one_minimal (length signs) L h.automaton k.automaton h.minimal k.minimal) ∙ sym k.text)
-    (h.unlimited ∙ sym k.unlimited)
+    one_telling (IsMinimal (length signs) L) (automaton_text signs) never
+    (one_minimal (length signs) L) p q h k
 one_section section.Monoid limits signs L p q h k =
     let monoid = monoids_are_one (length signs) L h.monoid k.monoid h.syntactic k.syntactic in
     let rules = rules_are_one_too (length signs) L h.monoid k.monoid h.rules k.rules monoid
@@ -175,22 +167,34 @@ one_section section.Green limits signs L p q h k =
     ∙ ap (λ b. green_text signs (marked k.monoid.graphs.words b) h.boxes) marks
     ∙ ap (green_text signs (marked k.monoid.graphs.words k.idempotents)) boxes ∙ sym k.text)
     (h.unlimited ∙ sym k.unlimited)
-one_section section.StarFree limits signs L p q h k = one_star_free limits signs L p q h k
-one_section section.Piecewise limits signs L p q h k = one_piecewise limits signs L p q h k
-one_section section.Local limits signs L p q h k = one_local limits signs L p q h k
-one_section section.RTrivial limits signs L p q h k = one_r_trivial signs L p q h k
-one_section section.Commutative limits signs L p q h k = one_commutative signs L p q h k
+one_section section.StarFree limits signs L p q h k =
+    one_telling (AnswersStarFree limits (length signs) L)
+    (star_free_text signs limits.table limits.nodes) is_star_free_limit
+    (one_star_free limits (length signs) L) p q h k
+one_section section.Piecewise limits signs L p q h k =
+    one_telling (AnswersPiecewise limits (length signs) L) (piecewise_text signs)
+    is_piecewise_limit (one_piecewise limits (length signs) L) p q h k
+one_section section.Local limits signs L p q h k =
+    one_telling (AnswersLocal limits (length signs) L) (local_text signs limits.table)
+    is_local_limit (one_local limits (length signs) L) p q h k
+one_section section.RTrivial limits signs L p q h k =
+    one_telling (AnswersRTrivial limits (length signs) L) (r_trivial_text signs) never
+    (one_r_trivial limits (length signs) L) p q h k
+one_section section.Commutative limits signs L p q h k =
+    one_telling (IsCommutativeAnswer (length signs) L) (commutative_text signs) never
+    (one_commutative_answer (length signs) L) p q h k
 one_section section.Summary limits signs L p q h k = one_summary limits signs L p q h k
 one_section section.Table limits signs L p q h k =
-    let monoid = monoids_are_one (length signs) L h.monoid k.monoid h.syntactic k.syntactic in
+    let monoid = monoids_are_one (length signs) L h.right.monoid k.right.monoid
+    h.right.syntactic k.right.syntactic in
     let P : SyntacticMonoid → Type 0 = λ m.
-    IsTableWithin limits.table (Syntactic (length signs) L) m.graphs.words h.table in
-    let products = subst P monoid h.products in
+    IsTableWithin limits.table (Syntactic (length signs) L) m.graphs.words h.answer in
+    let products = subst P monoid h.right.products in
     same_said p q
-    (h.text ∙ one_section_text (Syntactic (length signs) L) k.monoid.graphs.words limits.table
-    h.table k.table products k.products ∙ sym k.text)
-    (h.limited ∙ one_limit (Syntactic (length signs) L) k.monoid.graphs.words limits.table
-    h.table k.table products k.products ∙ sym k.limited)
+    (h.text ∙ one_section_text (Syntactic (length signs) L) k.right.monoid.graphs.words
+    limits.table h.answer k.answer products k.right.products ∙ sym k.text)
+    (h.limited ∙ one_limit (Syntactic (length signs) L) k.right.monoid.graphs.words limits.table
+    h.answer k.answer products k.right.products ∙ sym k.limited)
 
 all_sections : (sections : List Section) (limits : Limits) (signs : List ℕ) (L : List ℕ → Type 0)
     (p q : List Said)

@@ -1,6 +1,6 @@
 -- The table of products of a language's syntactic monoid, and its text.
-use Rattle.std.proofs.Common.{◌≡◌, ◌<◌, ℕ, zero, suc, List, ◌++◌, Option, Some, None, refl, ap, sym, ◌∙◌, subst, arith}
-use Rattle.std.specs.Prelude.{codes, is_none}
+use Rattle.std.proofs.Common.{◌≡◌, ◌↔◌, ◌<◌, ◌≤◌, ℕ, IsTrue, zero, suc, List, ◌++◌, length, Option, Some, None, refl, ap, sym, ◌∙◌, subst, arith}
+use Rattle.std.specs.Prelude.{codes, is_none, is_some, option_map}
 use Rattle.std.specs.Fmt.{decimal}
 use Rattle.language_theory.specs.Congruence.{Syntactic}
 use Rattle.language_theory.specs.ShortlexGraph.{SameNode}
@@ -64,6 +64,14 @@ module _ (same : List ℕ → List ℕ → Type 0) (words : List (List ℕ)) whe
   one_limit most None (Some t) h k = let few = k.0 in absurd (omega (arith, h, few))
   one_limit most (Some s) None h k = let few = h.0 in absurd (omega (arith, k, few))
   one_limit most (Some s) (Some t) h k = refl
+
+-- there is a table exactly within its limit
+pub table_within : (most : ℕ) (same : List ℕ → List ℕ → Type 0) (words : List (List ℕ)) {T : Type 0}
+    (value : T → ProductTable) (t : Option T)
+    → IsTableWithin most same words (option_map value t)
+    → IsTrue (is_some t) ↔ (length words ≤ most)
+table_within most same words value None h = (λ e. cc, λ l. absurd (omega (arith, h, l)))
+table_within most same words value (Some t) h = (λ e. h.0, λ l. refl)
 
 module _ (k : ℕ) (L : List ℕ → Type 0) (m : SyntacticMonoid) (is : IsSyntacticMonoid k L m) where
   -- products in the graphs of the syntactic monoid are those of the syntactic congruence

@@ -1,3 +1,3 @@
 pub mod Sections
-pub mod Needs
+pub mod CommandNeeds
 pub mod Answers

@@ -1,5 +1,5 @@
 -- The sections of a report: which sections a command prints, and what each says about a language.
-use Rattle.std.specs.Prelude.{◌||◌, ◌≡◌, ◌<◌, ◌≤◌, ℕ, Bool, false, List, [], ◌∷◌, Option, Some, None, is_none, IsTrue, ◌↔◌, ⊤, length}
+use Rattle.std.specs.Prelude.{◌||◌, ◌≡◌, ◌<◌, ◌≤◌, ℕ, Bool, false, List, [], ◌∷◌, Option, Some, None, is_none, IfSome, IsTrue, ◌↔◌, ⊤, length}
 use Rattle.std.specs.List.{flat_map, list_any}
 use Rattle.language_theory.specs.Words.{word_at}
 use Rattle.language_theory.specs.Automaton.{is_marked}
@@ -17,6 +17,7 @@ use Rattle.command_line.specs.declared.request.Request.{Request}
 use Rattle.report_text.specs.AutomatonSection.{automaton_text}
 use Rattle.report_text.specs.MonoidSection.{monoid_text}
 use Rattle.report_text.specs.declared.summary_section.Counts.{Counts}
+use Rattle.report_text.specs.declared.summary_section.Summary.{Summary}
 use Rattle.report_text.specs.SummarySection.{summary_text}
 use Rattle.report_text.specs.GreenSection.{marked, green_text, marks_below}
 use Rattle.report_text.specs.StarFreeSection.{star_free_text, is_star_free_limit}
@@ -27,11 +28,10 @@ use Rattle.report_text.specs.TableSection.{section_text}
 use Rattle.answers.specs.declared.powers.SfAnswer.{SfAnswer}
 use Rattle.star_free.specs.Answer.{IsStarFreeAnswer, Tells as TellsStarFree}
 use Rattle.answers.specs.declared.factors.LtAnswer.{LtAnswer}
-use Rattle.locally_testable.specs.Answer.{IsLocalAnswer, Tells}
+use Rattle.locally_testable.specs.Answer.{IsLocalAnswer, Tells as TellsLocal}
 use Rattle.answers.specs.declared.subwords.PtAnswer.{PtAnswer}
 use Rattle.answers.specs.declared.subwords.PtWitness.{PtWitness}
-use Rattle.answers.specs.declared.commuting.CWitness.{CWitness}
-use Rattle.piecewise_testable.specs.Answers.{IsPiecewiseAnswer}
+use Rattle.piecewise_testable.specs.Answers.{IsPiecewiseAnswer, IsToldApart, IsAlwaysToldApart}
 use Rattle.piecewise_testable.specs.Witness.{IsRTrivialAnswer}
 use Rattle.piecewise_testable.specs.Commuting.{IsCommutativeAnswer}
 use Rattle.report_sections.specs.declared.sections.Section.{Section}
@@ -54,8 +54,7 @@ limits_of r = record {
   subsets = r.subsets;
   elements = r.elements;
   table = r.table;
-  nodes =
-      r.nodes;
+  nodes = r.nodes;
   level = r.level;
   pairs = r.pairs;
 }
@@ -81,12 +80,17 @@ pub record Said : Type 0 where
   pub text : List ℕ
   pub limited : Bool
 
--- the section `automaton`: the text of the minimal automaton
-pub record IsAutomatonSection (signs : List ℕ) (L : List ℕ → Type 0) (said : Said) : Type 0 where
-  pub automaton : MinimalAutomaton
-  pub minimal : IsMinimal (length signs) L automaton
-  pub text : said.text ≡ automaton_text signs automaton
-  pub unlimited : said.limited ≡ false
+-- A section that tells a right answer says its text, and whether it is a limit.
+pub record TellsAnswer {A : Type 0} (IsRight : A → Type 0) (text_of : A → List ℕ)
+    (is_limit : A → Bool) (said : Said) : Type 0 where
+  pub answer : A
+  pub right : IsRight answer
+  pub text : said.text ≡ text_of answer
+  pub limited : said.limited ≡ is_limit answer
+
+-- no answer is a limit
+abbrev pub never : {A : Type 0} → A → Bool
+never answer = false
 
 -- The section `monoid`: the elements of the syntactic monoid, which are the classes of the syntactic
 -- congruence, each once by its least word, with both Cayley graphs; and the rules of that congruence.
@@ -118,59 +122,6 @@ pub record IsGreenSection (signs : List ℕ) (L : List ℕ → Type 0) (said : S
   pub text : said.text ≡ green_text signs (marked monoid.graphs.words idempotents) boxes
   pub unlimited : said.limited ≡ false
 
--- The section `starfree`: a star-free list of the language, words whose powers never settle, or the
--- limit that was met; a table of products is there where there are no more elements than its limit.
-pub record IsStarFreeSection (limits : Limits) (signs : List ℕ) (L : List ℕ → Type 0)
-    (said : Said) : Type 0 where
-  pub monoid : SyntacticMonoid
-  pub syntactic : IsSyntacticMonoid (length signs) L monoid
-  pub has_table : Bool
-  pub table : IsTrue has_table ↔ (length monoid.graphs.words ≤ limits.table)
-  pub answer : SfAnswer
-  pub answered : IsStarFreeAnswer (length signs) L monoid limits.nodes has_table answer
-  pub tells : TellsStarFree (length signs) L answer
-  pub text : said.text ≡ star_free_text signs limits.table limits.nodes answer
-  pub limited : said.limited ≡ is_star_free_limit answer
-
--- The section `piecewise`: the least length of subwords that tells the language, words that no
--- length tells apart, or the limit that was met.
-pub record IsPiecewiseSection (limits : Limits) (signs : List ℕ) (L : List ℕ → Type 0)
-    (said : Said) : Type 0 where
-  pub answer : PtAnswer
-  pub answered : IsPiecewiseAnswer (length signs) L limits.pairs limits.level answer
-  pub text : said.text ≡ piecewise_text signs answer
-  pub limited : said.limited ≡ is_piecewise_limit answer
-
--- The section `local`: the least level of factors that tells the language, words that no level tells
--- apart, or the limit that was met; a table of products is there where there are no more elements
--- than its limit.
-pub record IsLocalSection (limits : Limits) (signs : List ℕ) (L : List ℕ → Type 0)
-    (said : Said) : Type 0 where
-  pub monoid : SyntacticMonoid
-  pub syntactic : IsSyntacticMonoid (length signs) L monoid
-  pub has_table : Bool
-  pub table : IsTrue has_table ↔ (length monoid.graphs.words ≤ limits.table)
-  pub answer : LtAnswer
-  pub answered : IsLocalAnswer (length signs) L monoid.graphs.words has_table limits.level
-      limits.pairs answer
-  pub tells : Tells (length signs) L answer
-  pub text : said.text ≡ local_text signs limits.table answer
-  pub limited : said.limited ≡ is_local_limit answer
-
--- The section `rtrivial`: the syntactic monoid is R-trivial, or words show that it is not.
-pub record IsRTrivialSection (signs : List ℕ) (L : List ℕ → Type 0) (said : Said) : Type 0 where
-  pub answer : Option PtWitness
-  pub answered : IsRTrivialAnswer (length signs) L answer
-  pub text : said.text ≡ r_trivial_text signs answer
-  pub unlimited : said.limited ≡ false
-
--- The section `commutative`: the syntactic monoid is commutative, or words show that it is not.
-pub record IsCommutativeSection (signs : List ℕ) (L : List ℕ → Type 0) (said : Said) : Type 0 where
-  pub answer : Option CWitness
-  pub answered : IsCommutativeAnswer (length signs) L answer
-  pub text : said.text ≡ commutative_text signs answer
-  pub unlimited : said.limited ≡ false
-
 -- the table has the products of the classes of a relation that have these representatives
 pub record AreProducts (same : List ℕ → List ℕ → Type 0) (words : List (List ℕ))
     (t : ProductTable) : Type 0 where
@@ -183,16 +134,53 @@ abbrev pub IsTableWithin : ℕ → (List ℕ → List ℕ → Type 0) → List (
 IsTableWithin most same words None = most < length words
 IsTableWithin most same words (Some t) = (length words ≤ most) × AreProducts same words t
 
--- The section `table`: all products in the syntactic monoid, or that it has more elements than the
--- limit.
-pub record IsTableSection (most : ℕ) (signs : List ℕ) (L : List ℕ → Type 0) (said : Said) : Type 0
-  where
+-- What is answered of a language L over k letters, within the limits.
+module _ (limits : Limits) (k : ℕ) (L : List ℕ → Type 0) where
+  -- a star-free list of the language, words whose powers never settle, or the limit that was met; a
+  -- table of products is there where there are no more elements than its limit
+  pub record AnswersStarFree (answer : SfAnswer) : Type 0 where
     pub monoid : SyntacticMonoid
-    pub syntactic : IsSyntacticMonoid (length signs) L monoid
-    pub table : Option ProductTable
-    pub products : IsTableWithin most (Syntactic (length signs) L) monoid.graphs.words table
-    pub text : said.text ≡ section_text table most
-    pub limited : said.limited ≡ is_none table
+    pub syntactic : IsSyntacticMonoid k L monoid
+    pub has_table : Bool
+    pub table : IsTrue has_table ↔ (length monoid.graphs.words ≤ limits.table)
+    pub answered : IsStarFreeAnswer k L monoid limits.nodes has_table answer
+    pub tells : TellsStarFree k L answer
+
+  -- the least length of subwords that tells the language, words that are told apart at every length,
+  -- or the limit that was met
+  pub record AnswersPiecewise (answer : PtAnswer) : Type 0 where
+    pub answered : IsPiecewiseAnswer k L limits.pairs limits.level answer
+    pub tells : IsAlwaysToldApart L answer
+
+  -- the least level of factors that tells the language, words that are told apart at every level, or
+  -- the limit that was met; a table of products is there where there are no more elements than its
+  -- limit
+  pub record AnswersLocal (answer : LtAnswer) : Type 0 where
+    pub monoid : SyntacticMonoid
+    pub syntactic : IsSyntacticMonoid k L monoid
+    pub has_table : Bool
+    pub table : IsTrue has_table ↔ (length monoid.graphs.words ≤ limits.table)
+    pub answered : IsLocalAnswer k L monoid.graphs.words has_table limits.level limits.pairs answer
+    pub tells : TellsLocal k L answer
+
+  -- that the syntactic monoid is R-trivial, or words that are told apart at every level
+  pub record AnswersRTrivial (answer : Option PtWitness) : Type 0 where
+    pub answered : IsRTrivialAnswer k L answer
+    pub tells : IfSome answer (λ w. (n : ℕ) → IsToldApart L n w)
+
+  -- all products in the syntactic monoid, or that it has more elements than the limit
+  pub record AnswersTable (answer : Option ProductTable) : Type 0 where
+    pub monoid : SyntacticMonoid
+    pub syntactic : IsSyntacticMonoid k L monoid
+    pub products : IsTableWithin limits.table (Syntactic k L) monoid.graphs.words answer
+
+  -- the answers of a summary
+  pub record AnswersAll (answers : Summary) : Type 0 where
+    pub star_free : AnswersStarFree answers.star_free
+    pub piecewise : AnswersPiecewise answers.piecewise
+    pub local : AnswersLocal answers.local
+    pub r_trivial : AnswersRTrivial answers.r_trivial
+    pub commutative : IsCommutativeAnswer k L answers.commutative
 
 -- the counts of a language: the states of its minimal automaton, the elements of its syntactic
 -- monoid, the rules, the boxes and the idempotents
@@ -215,38 +203,45 @@ pub record AreCounts (size : ℕ) (signs : List ℕ) (L : List ℕ → Type 0) (
     pub boxes : counts.boxes ≡ length diagram
     pub idempotents : counts.idempotents ≡ marks_below marks (length monoid.graphs.words)
 
+-- whether one of the answers of a summary is a limit
+abbrev pub is_summary_limit : Summary → Bool
+is_summary_limit a =
+    is_star_free_limit a.star_free || (is_piecewise_limit a.piecewise || is_local_limit a.local)
+
 -- The section `summary`: the size of the generated file, the counts of its language, and the first
--- line each of five sections.
+-- line of each of five answers.
 pub record IsSummarySection (limits : Limits) (signs : List ℕ) (L : List ℕ → Type 0)
     (said : Said) : Type 0 where
   pub counts : Counts
   pub counted : AreCounts limits.size signs L counts
-  pub star_free : Said
-  pub star_free_said : IsStarFreeSection limits signs L star_free
-  pub piecewise : Said
-  pub piecewise_said : IsPiecewiseSection limits signs L piecewise
-  pub local : Said
-  pub local_said : IsLocalSection limits signs L local
-  pub r_trivial : Said
-  pub r_trivial_said : IsRTrivialSection signs L r_trivial
-  pub commutative : Said
-  pub commutative_said : IsCommutativeSection signs L commutative
-  pub text : said.text ≡ summary_text counts star_free.text piecewise.text local.text
-      r_trivial.text commutative.text
-  pub limited : said.limited ≡ (star_free.limited || (piecewise.limited || local.limited))
+  pub answers : Summary
+  pub answered : AnswersAll limits (length signs) L answers
+  pub text : said.text ≡ summary_text counts limits.table limits.nodes answers
+  pub limited : said.limited ≡ is_summary_limit answers
 
 -- The table of sections: what each says about the language L over the letters with these signs,
 -- within the limits.
 abbrev pub IsSection : Section → Limits → List ℕ → (List ℕ → Type 0) → Said → Type 0
-IsSection section.Automaton limits signs L said = IsAutomatonSection signs L said
+IsSection section.Automaton limits signs L said =
+    TellsAnswer (IsMinimal (length signs) L) (automaton_text signs) never said
 IsSection section.Monoid limits signs L said = IsMonoidSection signs L said
 IsSection section.Green limits signs L said = IsGreenSection signs L said
-IsSection section.StarFree limits signs L said = IsStarFreeSection limits signs L said
-IsSection section.Piecewise limits signs L said = IsPiecewiseSection limits signs L said
-IsSection section.Local limits signs L said = IsLocalSection limits signs L said
-IsSection section.RTrivial limits signs L said = IsRTrivialSection signs L said
-IsSection section.Commutative limits signs L said = IsCommutativeSection signs L said
-IsSection section.Table limits signs L said = IsTableSection limits.table signs L said
+IsSection section.StarFree limits signs L said =
+    TellsAnswer (AnswersStarFree limits (length signs) L)
+    (star_free_text signs limits.table limits.nodes) is_star_free_limit said
+IsSection section.Piecewise limits signs L said =
+    TellsAnswer (AnswersPiecewise limits (length signs) L) (piecewise_text signs)
+    is_piecewise_limit said
+IsSection section.Local limits signs L said =
+    TellsAnswer (AnswersLocal limits (length signs) L) (local_text signs limits.table)
+    is_local_limit said
+IsSection section.RTrivial limits signs L said =
+    TellsAnswer (AnswersRTrivial limits (length signs) L) (r_trivial_text signs) never said
+IsSection section.Commutative limits signs L said =
+    TellsAnswer (IsCommutativeAnswer (length signs) L) (commutative_text signs) never said
+IsSection section.Table limits signs L said =
+    TellsAnswer (AnswersTable limits (length signs) L) (λ t. section_text t limits.table) is_none
+    said
 IsSection section.Summary limits signs L said = IsSummarySection limits signs L said
 
 -- what each of these sections says, one after another

@@ -1,30 +1,27 @@
-//! What is computed for a request, and how its sections are said.
-ghost use Rattle.std.specs.Prelude.{◌≡◌, ◌≤◌, false, length, map, All, IfOk};
-ghost use Rattle.report_buffer.specs.Saying.{Says, channel};
-ghost use Rattle.report_text.specs.StarFreeSection.{IsStarFreeOver};
+//! What is computed for a request, and the answers of its sections.
+ghost use Rattle.std.specs.Prelude.{◌≡◌, map, option_map, All, IfOk};
+ghost use Rattle.std.specs.List.{list_any};
+ghost use Rattle.language_theory.specs.ShortlexGraph.{SameNode};
 ghost use Rattle.automaton_file.specs.FileText.{language_of};
-ghost use Rattle.report_sections.specs.Sections.{IsSection, AreSections};
-ghost use Rattle.report_sections.specs.Answers.{AreValues, HasNeeds, IsSayable, ArePresented, AreBoxed, HasGreen, values_of, monoid_said, green_said, star_free_said, summary_said, said_of, said_of_all};
+ghost use Rattle.report_sections.specs.declared.sections.Section.TheVariants as section;
+ghost use Rattle.report_sections.specs.Sections.{IsSection, AreSections, IsTableWithin};
+ghost use Rattle.report_sections.specs.Answers.{AreValues, HasNeeds, HasElements, HasGreen, HasTable, IsMonoidOf, AreGreensOf, IsSayable, is_limit, values_of, said_of};
 
 use crate::questions::{
     answer_commutative, answer_local, answer_piecewise, answer_r_trivial, answer_star_free,
     is_local_limit, is_piecewise_limit, is_star_free_limit,
 };
 use crate::sections::Section;
-use crate::summary::{answer_summary, is_summary_limit};
+use crate::summary::{answer_summary, counts_of, is_summary_limit};
 use answers::{CWitness, LtAnswer, PtAnswer, PtWitness, SfAnswer};
 use automaton_file::Source;
 use command_line::Request;
 use green_relations::{Boxes, Green, boxes_of};
 use parallel_table::Table;
 use presentation::{Rules, rules_of};
-use report_text::{
-    Buffer, Counts, SayFault, Summary, say_automaton, say_commutative, say_green, say_local,
-    say_monoid, say_piecewise, say_r_trivial, say_star_free, say_summary, say_table,
-};
+use report_text::{Counts, Summary};
 use std::alloc::Global;
 use subset_minimal::MinDfa;
-use syn_outside::Sink;
 use syn_words::Memory;
 use syntactic_monoid::Syntactic;
 
@@ -45,15 +42,53 @@ pub struct Values<'a> {
     pub table: &'a Option<Table>,
 }
 
-/// What a section has to tell.
+impl<'a> Values<'a> {
+    /// The syntactic monoid. Conditions: the values are those of the source's language, and it is there.
+    pub(crate) fn elements(&self) -> &'a Syntactic
+        requires values { AreValues (values_of self.now) }
+        requires needs { HasElements (values_of self.now) }
+        ensures { IsMonoidOf (values_of self.now) result.now }
+    {
+        self.monoid.as_ref().unwrap()
+    }
+
+    /// The syntactic monoid and its classes. Conditions: the values are those of the source's language, and they are
+    /// there.
+    pub(crate) fn classes(&self) -> (&'a Syntactic, &'a Green)
+        requires values { AreValues (values_of self.now) }
+        requires needs { HasGreen (values_of self.now) }
+        ensures monoid { IsMonoidOf (values_of self.now) result.0.now }
+        ensures green { AreGreensOf result.0.now.graphs result.1.now }
+    {
+        let monoid = self.monoid.as_ref().unwrap();
+        let green = self.green.as_ref().unwrap();
+        (monoid, green)
+    }
+
+    /// The syntactic monoid and the table of its products, or none where it is above its limit. Conditions: the values
+    /// are those of the source's language, and the monoid and such a table are there.
+    pub(crate) fn products(&self) -> (&'a Syntactic, Option<&'a Table>)
+        requires values { AreValues (values_of self.now) }
+        requires needs { HasTable (values_of self.now) }
+        ensures monoid { IsMonoidOf (values_of self.now) result.0.now }
+        ensures table { IsTableWithin (values_of self.now).limits.table
+            (SameNode result.0.now.graphs.right) result.0.now.graphs.words
+            (option_map (λ t. t.now) result.1) }
+    {
+        let monoid = self.monoid.as_ref().unwrap();
+        (monoid, self.table.as_ref())
+    }
+}
+
+/// What a section has to tell, with what it is told of.
 #[derive(Drop)]
-pub enum Answer {
+pub enum Answer<'a> {
     /// The minimal automaton.
-    Automaton,
-    /// The elements of the syntactic monoid, and its rules.
-    Monoid(Rules),
-    /// The egg-box diagram of the syntactic monoid.
-    Green(Boxes),
+    Automaton(&'a MinDfa),
+    /// The syntactic monoid, and its rules.
+    Monoid(&'a Syntactic, Rules),
+    /// The syntactic monoid, Green's classes, and its egg-box diagram.
+    Green(&'a Syntactic, &'a Green, Boxes),
     /// A star-free list of the language, words whose powers never settle, or a limit.
     StarFree(SfAnswer),
     /// From which length on subwords tell the language, words that no length tells apart, or a limit.
@@ -64,45 +99,57 @@ pub enum Answer {
     RTrivial(Option<PtWitness>),
     /// Letters that show that the syntactic monoid is not commutative, if there are any.
     Commutative(Option<CWitness>),
-    /// The products of all elements, or that there are more than the limit.
-    Table,
+    /// The products of all elements.
+    Table(&'a Table),
+    /// That there are more elements than the limit of the table.
+    TableLimit,
     /// The counts of a generated file's language, and the answers of which the first lines are said.
     Summary(Counts, Summary),
 }
 
-impl Answer {
+impl Answer<'_> {
     /// Whether it is a limit.
-    fn is_limit(&self, values: &Values<'_>) -> bool
-        ensures { result ≡ (said_of (values_of values.now) self.now).limited }
+    fn is_limit(&self) -> bool
+        ensures { result ≡ is_limit self.now }
     {
         match self {
-            Answer::Automaton
-            | Answer::Monoid(_)
-            | Answer::Green(_)
+            Answer::Automaton(_)
+            | Answer::Monoid(_, _)
+            | Answer::Green(_, _, _)
             | Answer::RTrivial(_)
-            | Answer::Commutative(_) => false,
+            | Answer::Commutative(_)
+            | Answer::Table(_) => false,
             Answer::StarFree(answer) => is_star_free_limit(answer),
             Answer::Piecewise(answer) => is_piecewise_limit(answer),
             Answer::Local(answer) => is_local_limit(answer),
-            Answer::Table => values.table.is_none(),
-            Answer::Summary(_, summary) => is_summary_limit(summary),
+            Answer::TableLimit => true,
+            Answer::Summary(_, answers) => is_summary_limit(answers),
         }
     }
 }
 
+/// Whether one of the answers is a limit.
+pub fn have_limit(answers: &[Answer<'_>]) -> bool
+    ensures { result ≡ list_any is_limit answers.now }
+{
+    answers.iter().any(|answer| answer.is_limit())
+}
+
 /// The answers of sections, in their order. Conditions: the values are those of the source's language, and what the
 /// sections need is there. Fault: want of memory.
-pub fn answer_sections(
+pub fn answer_sections<'a>(
     alloc: Global,
     sections: &[Section],
-    values: &Values<'_>,
-) -> Result<Vec<Answer>, Memory>
+    values: &Values<'a>,
+) -> Result<Vec<Answer<'a>>, Memory>
     requires values { AreValues (values_of values.now) }
     requires needs { All (HasNeeds (values_of values.now)) sections.now }
-    ensures sayable { IfOk result (λ answers. All (IsSayable (values_of values.now)) answers.items) }
+    ensures sayable { IfOk result
+        (λ answers. All (IsSayable (values_of values.now).source.letters) answers.items) }
     ensures said { IfOk result (λ answers. AreSections sections.now (values_of values.now).limits
         (values_of values.now).source.letters (language_of (values_of values.now).source)
-        (map (said_of (values_of values.now)) answers.items)) }
+        (map (said_of (values_of values.now).source.letters (values_of values.now).limits)
+        answers.items)) }
 {
     let mut answers = Vec::with_capacity(alloc, sections.len())?;
     for section in sections {
@@ -113,16 +160,20 @@ pub fn answer_sections(
 
 /// The answer of a section. Conditions: the values are those of the source's language, and what the section needs is
 /// there.
-fn answer_section(alloc: Global, section: Section, values: &Values<'_>) -> Result<Answer, Memory>
+fn answer_section<'a>(
+    alloc: Global,
+    section: Section,
+    values: &Values<'a>,
+) -> Result<Answer<'a>, Memory>
     requires values { AreValues (values_of values.now) }
     requires needs { HasNeeds (values_of values.now) section }
-    ensures sayable { IfOk result (λ answer. IsSayable (values_of values.now) answer) }
+    ensures sayable { IfOk result (IsSayable (values_of values.now).source.letters) }
     ensures said { IfOk result (λ answer. IsSection section (values_of values.now).limits
         (values_of values.now).source.letters (language_of (values_of values.now).source)
-        (said_of (values_of values.now) answer)) }
+        (said_of (values_of values.now).source.letters (values_of values.now).limits answer)) }
 {
     match section {
-        Section::Automaton => Ok(Answer::Automaton),
+        Section::Automaton => Ok(Answer::Automaton(values.dfa)),
         Section::Monoid => answer_monoid(alloc, values),
         Section::Green => answer_green(alloc, values),
         Section::StarFree => Ok(Answer::StarFree(answer_star_free(alloc, values)?)),
@@ -130,216 +181,58 @@ fn answer_section(alloc: Global, section: Section, values: &Values<'_>) -> Resul
         Section::Local => Ok(Answer::Local(answer_local(alloc, values)?)),
         Section::RTrivial => Ok(Answer::RTrivial(answer_r_trivial(alloc, values)?)),
         Section::Commutative => Ok(Answer::Commutative(answer_commutative(alloc, values)?)),
-        Section::Table => Ok(Answer::Table),
-        Section::Summary => answer_summary(alloc, values),
+        Section::Table => Ok(answer_table(values)),
+        Section::Summary => {
+            let counts = counts_of(alloc, values)?;
+            let answers = answer_summary(alloc, values)?;
+            Ok(Answer::Summary(counts, answers))
+        }
     }
 }
 
 /// The answer of the section `monoid`. Conditions: the values are those of the source's language, and the monoid is
 /// there.
-fn answer_monoid(alloc: Global, values: &Values<'_>) -> Result<Answer, Memory>
+fn answer_monoid<'a>(alloc: Global, values: &Values<'a>) -> Result<Answer<'a>, Memory>
     requires values { AreValues (values_of values.now) }
-    requires needs { HasNeeds (values_of values.now) Section.Monoid }
-    ensures sayable { IfOk result (λ answer. IsSayable (values_of values.now) answer) }
-    ensures said { IfOk result (λ answer. IsSection Section.Monoid (values_of values.now).limits
+    requires needs { HasElements (values_of values.now) }
+    ensures sayable { IfOk result (IsSayable (values_of values.now).source.letters) }
+    ensures said { IfOk result (λ answer. IsSection section.Monoid (values_of values.now).limits
         (values_of values.now).source.letters (language_of (values_of values.now).source)
-        (said_of (values_of values.now) answer)) }
+        (said_of (values_of values.now).source.letters (values_of values.now).limits answer)) }
 {
-    let monoid = values.monoid.as_ref().unwrap();
+    let monoid = values.elements();
     let rules = rules_of(alloc, monoid.cayley())?;
-    Ok(Answer::Monoid(rules))
+    Ok(Answer::Monoid(monoid, rules))
 }
 
 /// The answer of the section `green`. Conditions: the values are those of the source's language, and the monoid and its
 /// classes are there.
-fn answer_green(alloc: Global, values: &Values<'_>) -> Result<Answer, Memory>
+fn answer_green<'a>(alloc: Global, values: &Values<'a>) -> Result<Answer<'a>, Memory>
     requires values { AreValues (values_of values.now) }
     requires needs { HasGreen (values_of values.now) }
-    ensures sayable { IfOk result (λ answer. IsSayable (values_of values.now) answer) }
-    ensures said { IfOk result (λ answer. IsSection Section.Green (values_of values.now).limits
+    ensures sayable { IfOk result (IsSayable (values_of values.now).source.letters) }
+    ensures said { IfOk result (λ answer. IsSection section.Green (values_of values.now).limits
         (values_of values.now).source.letters (language_of (values_of values.now).source)
-        (said_of (values_of values.now) answer)) }
+        (said_of (values_of values.now).source.letters (values_of values.now).limits answer)) }
 {
-    let boxes = boxes_of(alloc, values.green.as_ref().unwrap())?;
-    Ok(Answer::Green(boxes))
+    let (monoid, green) = values.classes();
+    let boxes = boxes_of(alloc, green)?;
+    Ok(Answer::Green(monoid, green, boxes))
 }
 
-/// Whether one of the answers is a limit.
-pub fn have_limit(answers: &[Answer], values: &Values<'_>) -> bool
-    ensures { result ≡ (said_of_all (values_of values.now) answers.now).limited }
-{
-    for answer in answers {
-        if answer.is_limit(values) {
-            return true;
-        }
-    }
-    false
-}
-
-/// Says the sections of the answers, one after another. Conditions: the values are those of the source's language, the
-/// parts of each answer belong together, and the buffer is not broken. `Write` comes only where the sink's count of
-/// faults rose in this call.
-pub fn say_answers<S: Sink>(
-    alloc: Global,
-    sink: &mut S,
-    buffer: &mut Buffer,
-    values: &Values<'_>,
-    answers: &[Answer],
-) -> Result<(), SayFault>
+/// The answer of the section `table`. Conditions: the values are those of the source's language, and the monoid is
+/// there, with the table of its products where it is within its limit.
+fn answer_table<'a>(values: &Values<'a>) -> Answer<'a>
     requires values { AreValues (values_of values.now) }
-    requires sayable { All (IsSayable (values_of values.now)) answers.now }
-    requires whole { buffer.old.broken ≡ false }
-    ensures { Says (channel (S.written sink.old) (S.faults sink.old) buffer.old) result
-        (channel (S.written sink.new) (S.faults sink.new) buffer.new)
-        (said_of_all (values_of values.now) answers.now).text }
+    requires needs { HasTable (values_of values.now) }
+    ensures sayable { IsSayable (values_of values.now).source.letters result }
+    ensures said { IsSection section.Table (values_of values.now).limits
+        (values_of values.now).source.letters (language_of (values_of values.now).source)
+        (said_of (values_of values.now).source.letters (values_of values.now).limits result) }
 {
-    for answer in answers {
-        say_answer(alloc, sink, buffer, values, answer)?;
+    let (_, table) = values.products();
+    match table {
+        Some(table) => Answer::Table(table),
+        None => Answer::TableLimit,
     }
-    Ok(())
-}
-
-/// Says the section of an answer. Conditions: its parts belong together, and the buffer is not broken.
-fn say_answer<S: Sink>(
-    alloc: Global,
-    sink: &mut S,
-    buffer: &mut Buffer,
-    values: &Values<'_>,
-    answer: &Answer,
-) -> Result<(), SayFault>
-    requires values { AreValues (values_of values.now) }
-    requires sayable { IsSayable (values_of values.now) answer.now }
-    requires whole { buffer.old.broken ≡ false }
-    ensures { Says (channel (S.written sink.old) (S.faults sink.old) buffer.old) result
-        (channel (S.written sink.new) (S.faults sink.new) buffer.new)
-        (said_of (values_of values.now) answer.now).text }
-{
-    match answer {
-        Answer::Automaton => say_automaton(
-            alloc,
-            sink,
-            buffer,
-            &values.source.alphabet,
-            values.dfa,
-        ),
-        Answer::Monoid(rules) => say_rules_of(alloc, sink, buffer, values, rules),
-        Answer::Green(boxes) => say_boxes_of(alloc, sink, buffer, values, boxes),
-        Answer::StarFree(answer) => say_star_free_of(alloc, sink, buffer, values, answer),
-        Answer::Piecewise(answer) => {
-            say_piecewise(alloc, sink, buffer, &values.source.alphabet, answer)
-        }
-        Answer::Local(answer) => {
-            let alphabet = &values.source.alphabet;
-            say_local(alloc, sink, buffer, alphabet, answer, values.request.table)
-        }
-        Answer::RTrivial(answer) => {
-            say_r_trivial(alloc, sink, buffer, &values.source.alphabet, answer)
-        }
-        Answer::Commutative(answer) => {
-            say_commutative(alloc, sink, buffer, &values.source.alphabet, answer)
-        }
-        Answer::Table => say_table(
-            alloc,
-            sink,
-            buffer,
-            values.table.as_ref(),
-            values.request.table,
-        ),
-        Answer::Summary(counts, summary) => {
-            say_summary_of(alloc, sink, buffer, values, counts, summary)
-        }
-    }
-}
-
-/// Says the section `monoid`. Conditions: the monoid is there and the rules are its own, and the buffer is not broken.
-fn say_rules_of<S: Sink>(
-    alloc: Global,
-    sink: &mut S,
-    buffer: &mut Buffer,
-    values: &Values<'_>,
-    rules: &Rules,
-) -> Result<(), SayFault>
-    requires sayable { ArePresented (values_of values.now) rules.now }
-    requires whole { buffer.old.broken ≡ false }
-    ensures { Says (channel (S.written sink.old) (S.faults sink.old) buffer.old) result
-        (channel (S.written sink.new) (S.faults sink.new) buffer.new)
-        (monoid_said (values_of values.now) rules.now).text }
-{
-    let monoid = values.monoid.as_ref().unwrap();
-    say_monoid(alloc, sink, buffer, &values.source.alphabet, monoid, rules)
-}
-
-/// Says the section `green`. Conditions: the monoid and its classes are there and the boxes are their own, and the
-/// buffer is not broken.
-fn say_boxes_of<S: Sink>(
-    alloc: Global,
-    sink: &mut S,
-    buffer: &mut Buffer,
-    values: &Values<'_>,
-    boxes: &Boxes,
-) -> Result<(), SayFault>
-    requires sayable { AreBoxed (values_of values.now) boxes.now }
-    requires whole { buffer.old.broken ≡ false }
-    ensures { Says (channel (S.written sink.old) (S.faults sink.old) buffer.old) result
-        (channel (S.written sink.new) (S.faults sink.new) buffer.new)
-        (green_said (values_of values.now) boxes.now).text }
-{
-    let cayley = values.monoid.as_ref().unwrap().cayley();
-    let green = values.green.as_ref().unwrap();
-    let alphabet = &values.source.alphabet;
-    say_green(alloc, sink, buffer, alphabet, cayley, green, boxes)
-}
-
-/// Says the section `starfree`. Conditions: the letters of the answer are those of the source, and the buffer is not
-/// broken.
-fn say_star_free_of<S: Sink>(
-    alloc: Global,
-    sink: &mut S,
-    buffer: &mut Buffer,
-    values: &Values<'_>,
-    answer: &SfAnswer,
-) -> Result<(), SayFault>
-    requires sayable { IsStarFreeOver (length (values_of values.now).source.letters) answer.now }
-    requires whole { buffer.old.broken ≡ false }
-    ensures { Says (channel (S.written sink.old) (S.faults sink.old) buffer.old) result
-        (channel (S.written sink.new) (S.faults sink.new) buffer.new)
-        (star_free_said (values_of values.now) answer.now).text }
-{
-    let alphabet = &values.source.alphabet;
-    let limits = values.request;
-    say_star_free(
-        alloc,
-        sink,
-        buffer,
-        alphabet,
-        answer,
-        limits.table,
-        limits.nodes,
-    )
-}
-
-/// Says the section `summary`. Condition: the buffer is not broken.
-fn say_summary_of<S: Sink>(
-    alloc: Global,
-    sink: &mut S,
-    buffer: &mut Buffer,
-    values: &Values<'_>,
-    counts: &Counts,
-    summary: &Summary,
-) -> Result<(), SayFault>
-    requires whole { buffer.old.broken ≡ false }
-    ensures { Says (channel (S.written sink.old) (S.faults sink.old) buffer.old) result
-        (channel (S.written sink.new) (S.faults sink.new) buffer.new)
-        (summary_said (values_of values.now) counts.now summary.now).text }
-{
-    let limits = values.request;
-    say_summary(
-        alloc,
-        sink,
-        buffer,
-        counts,
-        summary,
-        limits.table,
-        limits.nodes,
-    )
 }

@@ -3,8 +3,10 @@
 
 mod answering;
 mod questions;
+mod saying;
 mod sections;
 mod summary;
 
-pub use answering::{Answer, Values, answer_sections, have_limit, say_answers};
-pub use sections::{Section, needs_elements, needs_green, needs_table, sections_of};
+pub use answering::{Answer, Values, answer_sections, have_limit};
+pub use saying::say_answers;
+pub use sections::{Needs, Section, needs_elements, needs_green, needs_table, sections_of};

@@ -1,13 +1,12 @@
 //! The answers of the sections that ask something of the language.
-ghost use Rattle.std.specs.Prelude.{◌≡◌, length, Some, IfOk};
-ghost use Rattle.report_text.specs.StarFreeSection.{IsStarFreeOver, is_star_free_limit};
-ghost use Rattle.report_text.specs.PiecewiseSection.{IsPiecewiseOver, IsRTrivialOver, is_piecewise_limit};
-ghost use Rattle.report_text.specs.LocalSection.{IsLocalOver, is_local_limit};
-ghost use Rattle.report_text.specs.CommutativeSection.{IsCommutativeOver};
+ghost use Rattle.std.specs.Prelude.{◌≡◌, length, IfOk};
+ghost use Rattle.report_text.specs.StarFreeSection.{is_star_free_limit};
+ghost use Rattle.report_text.specs.PiecewiseSection.{is_piecewise_limit};
+ghost use Rattle.report_text.specs.LocalSection.{is_local_limit};
 ghost use Rattle.automaton_file.specs.FileText.{language_of};
-ghost use Rattle.syntactic_monoid.specs.SyntacticMonoid.{SyntacticMonoid};
-ghost use Rattle.report_sections.specs.Sections.{IsStarFreeSection, IsPiecewiseSection, IsLocalSection, IsRTrivialSection, IsCommutativeSection};
-ghost use Rattle.report_sections.specs.Answers.{AreValues, HasGreen, HasTable, values_of, star_free_said, piecewise_said, local_said, r_trivial_said, commutative_said};
+ghost use Rattle.piecewise_testable.specs.Commuting.{IsCommutativeAnswer};
+ghost use Rattle.report_sections.specs.Sections.{AnswersStarFree, AnswersPiecewise, AnswersLocal, AnswersRTrivial};
+ghost use Rattle.report_sections.specs.Answers.{AreValues, HasElements, HasGreen, HasTable, values_of};
 
 use crate::answering::Values;
 use answers::{CWitness, LtAnswer, PtAnswer, PtWitness, SfAnswer};
@@ -22,14 +21,10 @@ use syn_words::Memory;
 pub(crate) fn answer_star_free(alloc: Global, values: &Values<'_>) -> Result<SfAnswer, Memory>
     requires values { AreValues (values_of values.now) }
     requires needs { HasTable (values_of values.now) }
-    ensures sayable { IfOk result (λ answer.
-        IsStarFreeOver (length (values_of values.now).source.letters) answer) }
-    ensures said { IfOk result (λ answer. IsStarFreeSection (values_of values.now).limits
-        (values_of values.now).source.letters (language_of (values_of values.now).source)
-        (star_free_said (values_of values.now) answer)) }
+    ensures { IfOk result (AnswersStarFree (values_of values.now).limits
+        (length (values_of values.now).source.letters) (language_of (values_of values.now).source)) }
 {
-    let monoid = values.monoid.as_ref().unwrap();
-    let table = values.table.as_ref();
+    let (monoid, table) = values.products();
     let answer = star_free(alloc, monoid, table, values.request.nodes)?;
     Ok(answer)
 }
@@ -39,14 +34,10 @@ pub(crate) fn answer_star_free(alloc: Global, values: &Values<'_>) -> Result<SfA
 pub(crate) fn answer_piecewise(alloc: Global, values: &Values<'_>) -> Result<PtAnswer, Memory>
     requires values { AreValues (values_of values.now) }
     requires needs { HasGreen (values_of values.now) }
-    ensures sayable { IfOk result (λ answer.
-        IsPiecewiseOver (length (values_of values.now).source.letters) answer) }
-    ensures said { IfOk result (λ answer. IsPiecewiseSection (values_of values.now).limits
-        (values_of values.now).source.letters (language_of (values_of values.now).source)
-        (piecewise_said (values_of values.now) answer)) }
+    ensures { IfOk result (AnswersPiecewise (values_of values.now).limits
+        (length (values_of values.now).source.letters) (language_of (values_of values.now).source)) }
 {
-    let monoid = values.monoid.as_ref().unwrap();
-    let green = values.green.as_ref().unwrap();
+    let (monoid, green) = values.classes();
     let limits = values.request;
     let answer = piecewise(alloc, monoid, green, values.dfa, limits.level, limits.pairs)?;
     Ok(answer)
@@ -57,14 +48,10 @@ pub(crate) fn answer_piecewise(alloc: Global, values: &Values<'_>) -> Result<PtA
 pub(crate) fn answer_local(alloc: Global, values: &Values<'_>) -> Result<LtAnswer, Memory>
     requires values { AreValues (values_of values.now) }
     requires needs { HasTable (values_of values.now) }
-    ensures sayable { IfOk result (λ answer.
-        IsLocalOver (length (values_of values.now).source.letters) answer) }
-    ensures said { IfOk result (λ answer. IsLocalSection (values_of values.now).limits
-        (values_of values.now).source.letters (language_of (values_of values.now).source)
-        (local_said (values_of values.now) answer)) }
+    ensures { IfOk result (AnswersLocal (values_of values.now).limits
+        (length (values_of values.now).source.letters) (language_of (values_of values.now).source)) }
 {
-    let monoid = values.monoid.as_ref().unwrap();
-    let table = values.table.as_ref();
+    let (monoid, table) = values.products();
     let limits = values.request;
     let answer = local(alloc, monoid, table, values.dfa, limits.level, limits.pairs)?;
     Ok(answer)
@@ -78,14 +65,10 @@ pub(crate) fn answer_r_trivial(
 ) -> Result<Option<PtWitness>, Memory>
     requires values { AreValues (values_of values.now) }
     requires needs { HasGreen (values_of values.now) }
-    ensures sayable { IfOk result (λ answer.
-        IsRTrivialOver (length (values_of values.now).source.letters) answer) }
-    ensures said { IfOk result (λ answer. IsRTrivialSection
-        (values_of values.now).source.letters (language_of (values_of values.now).source)
-        (r_trivial_said (values_of values.now) answer)) }
+    ensures { IfOk result (AnswersRTrivial (values_of values.now).limits
+        (length (values_of values.now).source.letters) (language_of (values_of values.now).source)) }
 {
-    let monoid = values.monoid.as_ref().unwrap();
-    let green = values.green.as_ref().unwrap();
+    let (monoid, green) = values.classes();
     let answer = r_trivial(alloc, monoid, green)?;
     Ok(answer)
 }
@@ -97,15 +80,11 @@ pub(crate) fn answer_commutative(
     values: &Values<'_>,
 ) -> Result<Option<CWitness>, Memory>
     requires values { AreValues (values_of values.now) }
-    requires needs { (m : SyntacticMonoid) × ((values_of values.now).monoid ≡ Some m) }
-    ensures sayable { IfOk result (λ answer.
-        IsCommutativeOver (length (values_of values.now).source.letters) answer) }
-    ensures said { IfOk result (λ answer. IsCommutativeSection
-        (values_of values.now).source.letters (language_of (values_of values.now).source)
-        (commutative_said (values_of values.now) answer)) }
+    requires needs { HasElements (values_of values.now) }
+    ensures { IfOk result (IsCommutativeAnswer (length (values_of values.now).source.letters)
+        (language_of (values_of values.now).source)) }
 {
-    let monoid = values.monoid.as_ref().unwrap();
-    let answer = commutative(alloc, monoid)?;
+    let answer = commutative(alloc, values.elements())?;
     Ok(answer)
 }
 

@@ -1,7 +1,7 @@
 //! The sections of a report.
 ghost use Rattle.std.specs.Prelude.{◌≡◌, ◌↔◌, IsTrue};
 ghost use Rattle.report_sections.specs.Sections.{sections_of};
-ghost use Rattle.report_sections.specs.Needs.{NeedsElements, NeedsGreen, NeedsTable};
+ghost use Rattle.report_sections.specs.CommandNeeds.{needs_of, NeedsElements, NeedsGreen, NeedsTable};
 
 use command_line::Command;
 
@@ -28,6 +28,37 @@ pub enum Section {
     Table,
     /// The counts of a generated file's language, and the first lines of the answers.
     Summary,
+}
+
+/// What a section needs to have been computed.
+#[derive(Clone, Copy, Debug, PartialEq, Eq)]
+pub struct Needs {
+    /// The elements of the syntactic monoid.
+    pub elements: bool,
+    /// Green's classes of the monoid.
+    pub green: bool,
+    /// The table of its products, if it is within its limit.
+    pub table: bool,
+}
+
+impl Section {
+    /// What the section needs.
+    pub fn needs(self) -> Needs
+        ensures { result ≡ needs_of self }
+    {
+        let (elements, green, table) = match self {
+            Section::Automaton => (false, false, false),
+            Section::Monoid | Section::Commutative => (true, false, false),
+            Section::Green | Section::Piecewise | Section::RTrivial => (true, true, false),
+            Section::StarFree | Section::Local | Section::Table => (true, false, true),
+            Section::Summary => (true, true, true),
+        };
+        Needs {
+            elements,
+            green,
+            table,
+        }
+    }
 }
 
 /// The sections that a command prints, in their order.
@@ -62,52 +93,25 @@ pub fn sections_of(command: Command) -> &'static [Section]
 pub fn needs_elements(command: Command) -> bool
     ensures { IsTrue result ↔ NeedsElements command }
 {
-    match command {
-        Command::Automaton => false,
-        Command::Monoid
-        | Command::Green
-        | Command::StarFree
-        | Command::Piecewise
-        | Command::Local
-        | Command::RTrivial
-        | Command::Commutative
-        | Command::Table
-        | Command::Report
-        | Command::Generate => true,
-    }
-}
-
-/// Whether a command needs the table of products.
-pub fn needs_table(command: Command) -> bool
-    ensures { IsTrue result ↔ NeedsTable command }
-{
-    match command {
-        Command::Automaton
-        | Command::Monoid
-        | Command::Green
-        | Command::Piecewise
-        | Command::RTrivial
-        | Command::Commutative => false,
-        Command::StarFree | Command::Local | Command::Table | Command::Report | Command::Generate =>
-            true,
-    }
+    sections_of(command)
+        .iter()
+        .any(|section| section.needs().elements)
 }
 
 /// Whether a command needs Green's classes.
 pub fn needs_green(command: Command) -> bool
     ensures { IsTrue result ↔ NeedsGreen command }
 {
-    match command {
-        Command::Automaton
-        | Command::Monoid
-        | Command::StarFree
-        | Command::Local
-        | Command::Commutative
-        | Command::Table => false,
-        Command::Green
-        | Command::Piecewise
-        | Command::RTrivial
-        | Command::Report
-        | Command::Generate => true,
-    }
+    sections_of(command)
+        .iter()
+        .any(|section| section.needs().green)
+}
+
+/// Whether a command needs the table of products.
+pub fn needs_table(command: Command) -> bool
+    ensures { IsTrue result ↔ NeedsTable command }
+{
+    sections_of(command)
+        .iter()
+        .any(|section| section.needs().table)
 }

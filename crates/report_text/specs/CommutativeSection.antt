@@ -1,5 +1,5 @@
 -- The text of the section `commutative`.
-use Rattle.std.specs.Prelude.{◌<◌, ◌++◌, ⊤, ℕ, List, codes, Option, Some, None}
+use Rattle.std.specs.Prelude.{◌<◌, ◌++◌, ⊤, ℕ, List, [], codes, Option, Some, None}
 use Rattle.language_theory.specs.Words.{Over}
 use Rattle.answers.specs.declared.commuting.CWitness.{CWitness}
 use Rattle.report_buffer.specs.Texts.{letter_text, word_line, first_line}
@@ -26,7 +26,16 @@ swap_text signs w =
     letters_line signs w.a w.b ++ word_line signs (codes "u") w.u
     ++ word_line signs (codes "v") w.v ++ first_line w.first_in
 
--- the section: yes, or two letters that do not commute, with a context that shows it
+-- the first line: the answer
+abbrev pub commutative_head : Option CWitness → List ℕ
+commutative_head None = codes "commutative yes\n"
+commutative_head (Some w) = codes "commutative no\n"
+
+-- the lines behind the first one: two letters that do not commute, with a context that shows it
+abbrev pub commutative_body : List ℕ → Option CWitness → List ℕ
+commutative_body signs None = []
+commutative_body signs (Some w) = swap_text signs w
+
+-- the section: the answer, and what shows it
 abbrev pub commutative_text : List ℕ → Option CWitness → List ℕ
-commutative_text signs None = codes "commutative yes\n"
-commutative_text signs (Some w) = codes "commutative no\n" ++ swap_text signs w
+commutative_text signs a = commutative_head a ++ commutative_body signs a

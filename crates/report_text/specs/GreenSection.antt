@@ -6,7 +6,7 @@ use Rattle.language_theory.specs.Automaton.{is_marked}
 use Rattle.cayley_tables.specs.CayleyGraphs.{CayleyGraphs}
 use Rattle.green_relations.specs.GreenClasses.{GreenClasses}
 use Rattle.green_relations.specs.EggBoxes.{AreBoxesOf, box_at, row_at, cell_at}
-use Rattle.report_buffer.specs.Texts.{texts_below, separated, word_text}
+use Rattle.report_buffer.specs.Texts.{texts_below, separated, word_text, number_line}
 
 -- the least words of the elements, and for each whether it is idempotent
 pub record Marked : Type 0 where
@@ -60,7 +60,7 @@ box_text signs m boxes n =
 
 -- the number of boxes
 abbrev pub boxes_head : List (List (List (List ℕ))) → List ℕ
-boxes_head boxes = codes "green\nboxes " ++ decimal (length boxes) ++ codes "\n"
+boxes_head boxes = codes "green\n" ++ number_line (codes "boxes") (length boxes)
 
 -- the boxes
 abbrev pub boxes_text : List ℕ → Marked → List (List (List (List ℕ))) → List ℕ
@@ -73,7 +73,7 @@ marks_below marks (suc n) = marks_below marks n + cond (is_marked marks n) 1 0
 
 -- the number of idempotents
 abbrev pub idempotents_text : ℕ → List ℕ
-idempotents_text count = codes "idempotents " ++ decimal count ++ codes "\n"
+idempotents_text count = number_line (codes "idempotents") count
 
 -- the section: the boxes, and the number of idempotents
 abbrev pub green_text : List ℕ → Marked → List (List (List (List ℕ))) → List ℕ

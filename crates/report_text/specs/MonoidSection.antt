@@ -6,7 +6,7 @@ use Rattle.language_theory.specs.Automaton.{is_marked}
 use Rattle.language_theory.specs.ShortlexGraph.{target}
 use Rattle.monoid_theory.specs.Presentation.{rule_at}
 use Rattle.syntactic_monoid.specs.SyntacticMonoid.{SyntacticMonoid}
-use Rattle.report_buffer.specs.Texts.{texts_below, numbers_below, word_text, membership_text}
+use Rattle.report_buffer.specs.Texts.{texts_below, numbers_below, word_text, membership_text, number_line}
 
 -- the number of elements
 abbrev pub elements_head : SyntacticMonoid → List ℕ
@@ -29,7 +29,7 @@ elements_text signs m =
 
 -- the number of rules
 abbrev pub rules_head : List (List ℕ × ℕ) → List ℕ
-rules_head rules = codes "rules " ++ decimal (length rules) ++ codes "\n"
+rules_head rules = number_line (codes "rules") (length rules)
 
 -- the left side of a rule, and the least word of its right side
 abbrev pub rule_text : List ℕ → List (List ℕ) → List (List ℕ × ℕ) → ℕ → List ℕ

@@ -1,5 +1,5 @@
 -- The texts of the sections `piecewise` and `rtrivial`.
-use Rattle.std.specs.Prelude.{◌<◌, ◌++◌, ⊤, ℕ, Bool, true, false, List, codes, Option, Some, None}
+use Rattle.std.specs.Prelude.{◌<◌, ◌++◌, ⊤, ℕ, Bool, true, false, List, [], codes, Option, Some, None}
 use Rattle.language_theory.specs.Words.{Over}
 use Rattle.answers.specs.declared.subwords.Side.{Side}
 use Rattle.answers.specs.declared.subwords.Side.TheVariants as side
@@ -44,14 +44,26 @@ witness_text signs w =
 abbrev pub no_head : PtWitness → List ℕ
 no_head w = codes "piecewise no " ++ side_text w.side ++ codes "\n"
 
--- the section `piecewise`: the least level that suffices, words that no level tells apart, or the
--- limit that was met
+-- the first line of `piecewise`: the answer, with the least level that suffices or the limit that was
+-- met
+abbrev pub piecewise_head : PtAnswer → List ℕ
+piecewise_head (answer.Yes n) = number_line (codes "piecewise yes") n
+piecewise_head (answer.No w) = no_head w
+piecewise_head (answer.Wide n) = number_line (codes "piecewise limit width") n
+piecewise_head (answer.Pairs n) = number_line (codes "piecewise limit pairs") n
+piecewise_head (answer.NoneTo n) = number_line (codes "piecewise limit level") n
+
+-- the lines behind the first one: words that no level tells apart
+abbrev pub piecewise_body : List ℕ → PtAnswer → List ℕ
+piecewise_body signs (answer.Yes n) = []
+piecewise_body signs (answer.No w) = witness_text signs w
+piecewise_body signs (answer.Wide n) = []
+piecewise_body signs (answer.Pairs n) = []
+piecewise_body signs (answer.NoneTo n) = []
+
+-- the section `piecewise`: the answer, and what shows it
 abbrev pub piecewise_text : List ℕ → PtAnswer → List ℕ
-piecewise_text signs (answer.Yes n) = number_line (codes "piecewise yes") n
-piecewise_text signs (answer.No w) = no_head w ++ witness_text signs w
-piecewise_text signs (answer.Wide n) = number_line (codes "piecewise limit width") n
-piecewise_text signs (answer.Pairs n) = number_line (codes "piecewise limit pairs") n
-piecewise_text signs (answer.NoneTo n) = number_line (codes "piecewise limit level") n
+piecewise_text signs a = piecewise_head a ++ piecewise_body signs a
 
 -- whether the answer is a limit
 abbrev pub is_piecewise_limit : PtAnswer → Bool
@@ -61,7 +73,16 @@ is_piecewise_limit (answer.Wide n) = true
 is_piecewise_limit (answer.Pairs n) = true
 is_piecewise_limit (answer.NoneTo n) = true
 
--- the section `rtrivial`: yes, or words that show that it is not
+-- the first line of `rtrivial`: the answer
+abbrev pub r_trivial_head : Option PtWitness → List ℕ
+r_trivial_head None = codes "rtrivial yes\n"
+r_trivial_head (Some w) = codes "rtrivial no\n"
+
+-- the lines behind the first one: words that show that the monoid is not R-trivial
+abbrev pub r_trivial_body : List ℕ → Option PtWitness → List ℕ
+r_trivial_body signs None = []
+r_trivial_body signs (Some w) = witness_text signs w
+
+-- the section `rtrivial`: the answer, and what shows it
 abbrev pub r_trivial_text : List ℕ → Option PtWitness → List ℕ
-r_trivial_text signs None = codes "rtrivial yes\n"
-r_trivial_text signs (Some w) = codes "rtrivial no\n" ++ witness_text signs w
+r_trivial_text signs a = r_trivial_head a ++ r_trivial_body signs a

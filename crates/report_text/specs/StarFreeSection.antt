@@ -1,5 +1,5 @@
 -- The text of the section `starfree`.
-use Rattle.std.specs.Prelude.{◌++◌, ⊤, ℕ, Bool, true, false, List, codes, length}
+use Rattle.std.specs.Prelude.{◌++◌, ⊤, ℕ, Bool, true, false, List, [], codes, length}
 use Rattle.std.specs.Fmt.{decimal}
 use Rattle.language_theory.specs.Words.{Over}
 use Rattle.star_free_theory.specs.declared.nodes.SfNode.{SfNode}
@@ -42,7 +42,7 @@ abbrev pub node_line : List ℕ → StarFreeList → ℕ → List ℕ
 node_line signs l n = decimal n ++ codes " " ++ node_text signs (node_at l.nodes n) ++ codes "\n"
 
 abbrev pub list_head : StarFreeList → List ℕ
-list_head l = codes "starfree yes\nnodes " ++ decimal (length l.nodes) ++ codes "\n"
+list_head l = number_line (codes "nodes") (length l.nodes)
 
 -- the number of nodes, and a line for each
 abbrev pub nodes_text : List ℕ → StarFreeList → List ℕ
@@ -62,21 +62,29 @@ loop_numbers l =
     number_line (codes "index") l.index ++ number_line (codes "period") l.period
     ++ first_line l.first_in
 
-abbrev pub loop_lines : List ℕ → Loop → List ℕ
-loop_lines signs l = loop_words signs l ++ loop_numbers l
-
 abbrev pub loop_text : List ℕ → Loop → List ℕ
-loop_text signs l = codes "starfree no\n" ++ loop_lines signs l
+loop_text signs l = loop_words signs l ++ loop_numbers l
 
--- the section: a star-free list of the language, words that never settle, or the limit that was met,
--- where `side` is that of the table and `most` that of the nodes
+-- the first line: the answer, with the limit that was met, where `side` is that of the table and
+-- `most` that of the nodes
+abbrev pub star_free_head : ℕ → ℕ → SfAnswer → List ℕ
+star_free_head side most (answer.Yes l) = codes "starfree yes\n"
+star_free_head side most (answer.No l) = codes "starfree no\n"
+star_free_head side most answer.TableLimit = number_line (codes "starfree limit table") side
+star_free_head side most answer.Depth = codes "starfree limit depth 400\n"
+star_free_head side most answer.Nodes = number_line (codes "starfree limit nodes") most
+
+-- the lines behind the first one: a star-free list of the language, or words that never settle
+abbrev pub star_free_body : List ℕ → SfAnswer → List ℕ
+star_free_body signs (answer.Yes l) = list_text signs l
+star_free_body signs (answer.No l) = loop_text signs l
+star_free_body signs answer.TableLimit = []
+star_free_body signs answer.Depth = []
+star_free_body signs answer.Nodes = []
+
+-- the section: the answer, and what shows it
 abbrev pub star_free_text : List ℕ → ℕ → ℕ → SfAnswer → List ℕ
-star_free_text signs side most (answer.Yes l) = list_text signs l
-star_free_text signs side most (answer.No l) = loop_text signs l
-star_free_text signs side most answer.TableLimit =
-    number_line (codes "starfree limit table") side
-star_free_text signs side most answer.Depth = codes "starfree limit depth 400\n"
-star_free_text signs side most answer.Nodes = number_line (codes "starfree limit nodes") most
+star_free_text signs side most a = star_free_head side most a ++ star_free_body signs a
 
 -- whether the answer is a limit
 abbrev pub is_star_free_limit : SfAnswer → Bool

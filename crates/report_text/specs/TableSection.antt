@@ -2,11 +2,11 @@
 use Rattle.std.specs.Prelude.{ℕ, List, Option, Some, None, ◌++◌, codes}
 use Rattle.std.specs.Fmt.{decimal}
 use Rattle.parallel_table.specs.ProductTables.{ProductTable, cell}
-use Rattle.report_buffer.specs.Texts.{texts_below, separated}
+use Rattle.report_buffer.specs.Texts.{texts_below, separated, number_line}
 
 -- the number of elements
 abbrev pub table_head : ProductTable → List ℕ
-table_head t = codes "table " ++ decimal t.side ++ codes "\n"
+table_head t = number_line (codes "table") t.side
 
 -- the products of the element i with each element, in order
 abbrev pub products_text : ProductTable → ℕ → List ℕ
@@ -18,7 +18,7 @@ table_text t = table_head t ++ texts_below (products_text t) t.side
 
 -- there are more elements than the limit
 abbrev pub table_limit_text : ℕ → List ℕ
-table_limit_text most = codes "table limit " ++ decimal most ++ codes "\n"
+table_limit_text most = number_line (codes "table limit") most
 
 -- the section: the table, or its limit
 abbrev pub section_text : Option ProductTable → ℕ → List ℕ

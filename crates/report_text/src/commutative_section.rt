@@ -1,7 +1,7 @@
 //! The section `commutative` of a report.
 ghost use Rattle.std.specs.Prelude.{◌≡◌, ◌<◌, ◌++◌, length, false, OnOk};
 ghost use Rattle.report_buffer.specs.Saying.{Says, channel};
-ghost use Rattle.report_text.specs.CommutativeSection.{IsSwapOver, IsCommutativeOver, pair_text, letters_line, swap_text, commutative_text};
+ghost use Rattle.report_text.specs.CommutativeSection.{IsSwapOver, IsCommutativeOver, pair_text, letters_line, swap_text, commutative_head, commutative_body, commutative_text};
 
 use answers::CWitness;
 use report_buffer::{
@@ -43,12 +43,36 @@ fn push_commutative(
     ensures { OnOk result
         (text.new.items ≡ text.old.items ++ commutative_text alphabet.now answer.now) }
 {
+    push_commutative_head(text, answer)?;
+    push_commutative_body(text, alphabet, answer)
+}
+
+/// Puts the first line of the section behind a text.
+pub(crate) fn push_commutative_head(
+    text: &mut Vec<u8>,
+    answer: &Option<CWitness>,
+) -> Result<(), Memory>
+    ensures { OnOk result (text.new.items ≡ text.old.items ++ commutative_head answer.now) }
+{
     match answer {
         None => push_bytes(text, b"commutative yes\n"),
-        Some(witness) => {
-            push_bytes(text, b"commutative no\n")?;
-            push_swap(text, alphabet, witness)
-        }
+        Some(_) => push_bytes(text, b"commutative no\n"),
+    }
+}
+
+/// Puts the lines behind the first one behind a text.
+fn push_commutative_body(
+    text: &mut Vec<u8>,
+    alphabet: &Alphabet,
+    answer: &Option<CWitness>,
+) -> Result<(), Memory>
+    requires { IsCommutativeOver (length alphabet.now) answer.now }
+    ensures { OnOk result
+        (text.new.items ≡ text.old.items ++ commutative_body alphabet.now answer.now) }
+{
+    match answer {
+        None => Ok(()),
+        Some(witness) => push_swap(text, alphabet, witness),
     }
 }
 

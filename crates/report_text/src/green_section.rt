@@ -1,15 +1,16 @@
 //! The section `green` of a report.
-ghost use Rattle.std.specs.Prelude.{◌≡◌, ◌<◌, ◌≤◌, ◌++◌, ℕ, codes, length, slice_index, [], false, All, OnOk};
-ghost use Rattle.language_theory.specs.Automaton.{is_marked};
-ghost use Rattle.green_relations.specs.EggBoxes.{box_at, row_at, cell_at};
+ghost use Rattle.std.specs.Prelude.{◌≡◌, ◌<◌, ◌++◌, length, false, All, OnOk};
+ghost use Rattle.green_relations.specs.EggBoxes.{box_at, row_at};
 ghost use Rattle.report_buffer.specs.Saying.{Says, channel};
 ghost use Rattle.report_text.specs.GreenSection.{AreBoxesToSay, marked, green_text, boxes_text, boxes_head, box_text, box_head};
-ghost use Rattle.report_text.specs.GreenSection.{row_text, cells_text, cell_text, member_text, star_text, marks_below, idempotents_text};
+ghost use Rattle.report_text.specs.GreenSection.{row_text, cells_text, cell_text, member_text, star_text, marks_below};
 
+use crate::lines::say_number_line;
 use cayley_tables::Cayley;
 use green_relations::{Boxes, Green};
 use report_buffer::{
-    Buffer, SayFault, push_bytes, push_count, push_gap, push_number, push_word, say_rendered,
+    Buffer, SayFault, push_bytes, push_count, push_gap, push_number, push_number_line, push_word,
+    say_rendered,
 };
 use std::alloc::Global;
 use syn_outside::Sink;
@@ -35,7 +36,7 @@ pub fn say_green<S: Sink>(
         (green_text alphabet.now (marked cayley.now.words green.now.idempotents) boxes.now) }
 {
     say_boxes(alloc, sink, buffer, alphabet, cayley, green, boxes)?;
-    say_idempotents(alloc, sink, buffer, idempotents_of(green))
+    say_number_line(alloc, sink, buffer, b"idempotents", idempotents_of(green))
 }
 
 /// Says the number of boxes, and each box. Conditions as for the section.
@@ -91,22 +92,6 @@ fn say_box<S: Sink>(
     Ok(())
 }
 
-/// Says the number of idempotents. Condition: the buffer is not broken.
-fn say_idempotents<S: Sink>(
-    alloc: Global,
-    sink: &mut S,
-    buffer: &mut Buffer,
-    count: u32,
-) -> Result<(), SayFault>
-    requires whole { buffer.old.broken ≡ false }
-    ensures { Says (channel (S.written sink.old) (S.faults sink.old) buffer.old) result
-        (channel (S.written sink.new) (S.faults sink.new) buffer.new) (idempotents_text count) }
-{
-    let mut line = Vec::new(alloc);
-    let rendered = push_idempotents(&mut line, count);
-    say_rendered(sink, buffer, rendered, &mut line)
-}
-
 /// The number of idempotents.
 pub fn idempotents_of(green: &Green) -> u32
     ensures { result ≡ marks_below green.now.idempotents (length green.now.r) }
@@ -124,9 +109,8 @@ pub fn idempotents_of(green: &Green) -> u32
 fn push_boxes_head(text: &mut Vec<u8>, boxes: &Boxes) -> Result<(), Memory>
     ensures { OnOk result (text.new.items ≡ text.old.items ++ boxes_head boxes.now) }
 {
-    push_bytes(text, b"green\nboxes ")?;
-    push_number(text, boxes.len())?;
-    push_bytes(text, b"\n")
+    push_bytes(text, b"green\n")?;
+    push_number_line(text, b"boxes", boxes.len())
 }
 
 /// Puts the head of a box behind a text.
@@ -244,13 +228,4 @@ fn push_star(text: &mut Vec<u8>, is_idempotent: bool) -> Result<(), Memory>
     ensures { OnOk result (text.new.items ≡ text.old.items ++ star_text is_idempotent) }
 {
     push_bytes(text, if is_idempotent { b"*" } else { b"" })
-}
-
-/// Puts the number of idempotents behind a text.
-fn push_idempotents(text: &mut Vec<u8>, count: u32) -> Result<(), Memory>
-    ensures { OnOk result (text.new.items ≡ text.old.items ++ idempotents_text count) }
-{
-    push_bytes(text, b"idempotents ")?;
-    push_number(text, count)?;
-    push_bytes(text, b"\n")
 }

@@ -4,6 +4,7 @@
 mod automaton_section;
 mod commutative_section;
 mod green_section;
+mod lines;
 mod local_section;
 mod monoid_section;
 mod piecewise_section;

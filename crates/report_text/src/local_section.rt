@@ -2,9 +2,9 @@
 ghost use Rattle.std.specs.Prelude.{◌≡◌, ◌++◌, length, false, OnOk};
 ghost use Rattle.language_theory.specs.Words.{Over};
 ghost use Rattle.report_buffer.specs.Saying.{Says, channel};
-ghost use Rattle.report_text.specs.LocalSection.{IsLocalWitnessOver, IsLocalOver, kind_text, other_line, local_witness_text, local_text};
+ghost use Rattle.report_text.specs.LocalSection.{IsLocalWitnessOver, IsLocalOver, kind_text, other_line, local_witness_text, local_head, local_body, local_text};
 
-use answers::{LtAnswer, LtKind, LtWitness};
+use answers::{LtAnswer, LtKind, LtWitness, MOST_WORK};
 use report_buffer::{
     Buffer, SayFault, push_bytes, push_first_line, push_number_line, push_word_line, say_rendered,
 };
@@ -47,14 +47,39 @@ fn push_local(
     ensures { OnOk result
         (text.new.items ≡ text.old.items ++ local_text alphabet.now max_table answer.now) }
 {
+    push_local_head(text, answer, max_table)?;
+    push_local_body(text, alphabet, answer)
+}
+
+/// Puts the first line of the section behind a text.
+pub(crate) fn push_local_head(
+    text: &mut Vec<u8>,
+    answer: &LtAnswer,
+    max_table: u32,
+) -> Result<(), Memory>
+    ensures { OnOk result (text.new.items ≡ text.old.items ++ local_head max_table answer.now) }
+{
     match answer {
         LtAnswer::Yes(level) => push_number_line(text, b"local yes", *level),
-        LtAnswer::No(witness) => push_witness(text, alphabet, witness),
+        LtAnswer::No(witness) => push_kind(text, witness.kind),
         LtAnswer::TableLimit => push_number_line(text, b"local limit table", max_table),
-        LtAnswer::WorkLimit => push_bytes(text, b"local limit work 200000000\n"),
+        LtAnswer::WorkLimit => push_number_line(text, b"local limit work", MOST_WORK as u32),
         LtAnswer::Wide(level) => push_number_line(text, b"local limit width", *level),
         LtAnswer::Pairs(level) => push_number_line(text, b"local limit pairs", *level),
         LtAnswer::NoneTo(level) => push_number_line(text, b"local limit level", *level),
+    }
+}
+
+/// Puts the lines behind the first one behind a text.
+fn push_local_body(text: &mut Vec<u8>, alphabet: &Alphabet, answer: &LtAnswer) -> Result<(), Memory>
+    requires { IsLocalOver (length alphabet.now) answer.now }
+    ensures { OnOk result
+        (text.new.items ≡ text.old.items ++ local_body alphabet.now answer.now) }
+{
+    match answer {
+        LtAnswer::No(witness) => push_witness(text, alphabet, witness),
+        LtAnswer::Yes(_) | LtAnswer::TableLimit | LtAnswer::WorkLimit => Ok(()),
+        LtAnswer::Wide(_) | LtAnswer::Pairs(_) | LtAnswer::NoneTo(_) => Ok(()),
     }
 }
 
@@ -64,7 +89,6 @@ fn push_witness(text: &mut Vec<u8>, alphabet: &Alphabet, witness: &LtWitness) ->
     ensures { OnOk result
         (text.new.items ≡ text.old.items ++ local_witness_text alphabet.now witness.now) }
 {
-    push_kind(text, witness.kind)?;
     push_word_line(text, alphabet, b"u", &witness.u)?;
     push_word_line(text, alphabet, b"x", &witness.x)?;
     push_word_line(text, alphabet, b"y", &witness.y)?;
@@ -74,7 +98,7 @@ fn push_witness(text: &mut Vec<u8>, alphabet: &Alphabet, witness: &LtWitness) ->
 }
 
 /// Puts behind a text what fails.
-pub(crate) fn push_kind(text: &mut Vec<u8>, kind: LtKind) -> Result<(), Memory>
+fn push_kind(text: &mut Vec<u8>, kind: LtKind) -> Result<(), Memory>
     ensures { OnOk result (text.new.items ≡ text.old.items ++ kind_text kind) }
 {
     match kind {

@@ -9,7 +9,8 @@ ghost use Rattle.report_text.specs.MonoidSection.{monoid_text, elements_text, el
 use cayley_tables::Cayley;
 use presentation::Rules;
 use report_buffer::{
-    Buffer, SayFault, push_bytes, push_membership, push_number, push_word, say_rendered,
+    Buffer, SayFault, push_bytes, push_membership, push_number, push_number_line, push_word,
+    say_rendered,
 };
 use std::alloc::Global;
 use syn_outside::Sink;
@@ -157,9 +158,7 @@ fn push_left_targets(text: &mut Vec<u8>, cayley: &Cayley, element: u32) -> Resul
 fn push_rules_head(text: &mut Vec<u8>, rules: &Rules) -> Result<(), Memory>
     ensures { OnOk result (text.new.items ≡ text.old.items ++ rules_head rules.now) }
 {
-    push_bytes(text, b"rules ")?;
-    push_number(text, rules.len())?;
-    push_bytes(text, b"\n")
+    push_number_line(text, b"rules", rules.len())
 }
 
 /// Puts the line of a rule behind a text.

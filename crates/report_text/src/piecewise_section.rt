@@ -1,7 +1,7 @@
 //! The sections `piecewise` and `rtrivial` of a report.
 ghost use Rattle.std.specs.Prelude.{◌≡◌, ◌<◌, ◌++◌, length, false, OnOk};
 ghost use Rattle.report_buffer.specs.Saying.{Says, channel};
-ghost use Rattle.report_text.specs.PiecewiseSection.{IsWitnessOver, IsPiecewiseOver, IsRTrivialOver, side_text, letter_line, no_head, witness_text, piecewise_text, r_trivial_text};
+ghost use Rattle.report_text.specs.PiecewiseSection.{IsWitnessOver, IsPiecewiseOver, IsRTrivialOver, side_text, letter_line, no_head, witness_text, piecewise_head, piecewise_body, piecewise_text, r_trivial_head, r_trivial_body, r_trivial_text};
 
 use answers::{PtAnswer, PtWitness, Side};
 use report_buffer::{
@@ -62,12 +62,36 @@ fn push_piecewise(text: &mut Vec<u8>, alphabet: &Alphabet, answer: &PtAnswer) ->
     ensures { OnOk result
         (text.new.items ≡ text.old.items ++ piecewise_text alphabet.now answer.now) }
 {
+    push_piecewise_head(text, answer)?;
+    push_piecewise_body(text, alphabet, answer)
+}
+
+/// Puts the first line of the section `piecewise` behind a text.
+pub(crate) fn push_piecewise_head(text: &mut Vec<u8>, answer: &PtAnswer) -> Result<(), Memory>
+    ensures { OnOk result (text.new.items ≡ text.old.items ++ piecewise_head answer.now) }
+{
     match answer {
         PtAnswer::Yes(level) => push_number_line(text, b"piecewise yes", *level),
-        PtAnswer::No(witness) => push_no(text, alphabet, witness),
+        PtAnswer::No(witness) => push_no_head(text, witness),
         PtAnswer::Wide(level) => push_number_line(text, b"piecewise limit width", *level),
         PtAnswer::Pairs(level) => push_number_line(text, b"piecewise limit pairs", *level),
         PtAnswer::NoneTo(level) => push_number_line(text, b"piecewise limit level", *level),
+    }
+}
+
+/// Puts the lines behind the first one of `piecewise` behind a text.
+fn push_piecewise_body(
+    text: &mut Vec<u8>,
+    alphabet: &Alphabet,
+    answer: &PtAnswer,
+) -> Result<(), Memory>
+    requires { IsPiecewiseOver (length alphabet.now) answer.now }
+    ensures { OnOk result
+        (text.new.items ≡ text.old.items ++ piecewise_body alphabet.now answer.now) }
+{
+    match answer {
+        PtAnswer::No(witness) => push_witness(text, alphabet, witness),
+        PtAnswer::Yes(_) | PtAnswer::Wide(_) | PtAnswer::Pairs(_) | PtAnswer::NoneTo(_) => Ok(()),
     }
 }
 
@@ -81,27 +105,41 @@ fn push_r_trivial(
     ensures { OnOk result
         (text.new.items ≡ text.old.items ++ r_trivial_text alphabet.now answer.now) }
 {
+    push_r_trivial_head(text, answer)?;
+    push_r_trivial_body(text, alphabet, answer)
+}
+
+/// Puts the first line of the section `rtrivial` behind a text.
+pub(crate) fn push_r_trivial_head(
+    text: &mut Vec<u8>,
+    answer: &Option<PtWitness>,
+) -> Result<(), Memory>
+    ensures { OnOk result (text.new.items ≡ text.old.items ++ r_trivial_head answer.now) }
+{
     match answer {
         None => push_bytes(text, b"rtrivial yes\n"),
-        Some(witness) => {
-            push_bytes(text, b"rtrivial no\n")?;
-            push_witness(text, alphabet, witness)
-        }
+        Some(_) => push_bytes(text, b"rtrivial no\n"),
     }
 }
 
-/// Puts the answer no behind a text.
-fn push_no(text: &mut Vec<u8>, alphabet: &Alphabet, witness: &PtWitness) -> Result<(), Memory>
-    requires { IsWitnessOver (length alphabet.now) witness.now }
-    ensures { OnOk result (text.new.items ≡ text.old.items
-        ++ (no_head witness.now ++ witness_text alphabet.now witness.now)) }
+/// Puts the lines behind the first one of `rtrivial` behind a text.
+fn push_r_trivial_body(
+    text: &mut Vec<u8>,
+    alphabet: &Alphabet,
+    answer: &Option<PtWitness>,
+) -> Result<(), Memory>
+    requires { IsRTrivialOver (length alphabet.now) answer.now }
+    ensures { OnOk result
+        (text.new.items ≡ text.old.items ++ r_trivial_body alphabet.now answer.now) }
 {
-    push_no_head(text, witness)?;
-    push_witness(text, alphabet, witness)
+    match answer {
+        None => Ok(()),
+        Some(witness) => push_witness(text, alphabet, witness),
+    }
 }
 
-/// Puts the head of the answer no behind a text.
-pub(crate) fn push_no_head(text: &mut Vec<u8>, witness: &PtWitness) -> Result<(), Memory>
+/// Puts the first line of the answer no behind a text.
+fn push_no_head(text: &mut Vec<u8>, witness: &PtWitness) -> Result<(), Memory>
     ensures { OnOk result (text.new.items ≡ text.old.items ++ no_head witness.now) }
 {
     push_bytes(text, b"piecewise no ")?;

@@ -2,13 +2,13 @@
 ghost use Rattle.std.specs.Prelude.{◌≡◌, ◌<◌, ◌++◌, ℕ, length, false, OnOk};
 ghost use Rattle.star_free_lists.specs.SfList.{AreLettersBelow};
 ghost use Rattle.report_buffer.specs.Saying.{Says, channel};
-ghost use Rattle.report_buffer.specs.Texts.{number_line};
-ghost use Rattle.report_text.specs.StarFreeSection.{IsLoopOver, IsStarFreeOver, pair_text, node_text, node_line, list_head, nodes_text, list_text, loop_words, loop_numbers, loop_lines, loop_text, star_free_text};
+ghost use Rattle.report_text.specs.StarFreeSection.{IsLoopOver, IsStarFreeOver, pair_text, node_text, node_line, list_head, nodes_text, list_text, loop_words, loop_numbers, loop_text, star_free_head, star_free_body, star_free_text};
 
+use crate::lines::say_number_line;
 use answers::{Loop, SfAnswer};
 use report_buffer::{
     Buffer, SayFault, push_bytes, push_first_line, push_letter, push_number, push_number_line,
-    push_word_line, say, say_rendered,
+    push_word_line, say_rendered,
 };
 use star_free_lists::{SfList, SfNode};
 use std::alloc::Global;
@@ -35,14 +35,47 @@ pub fn say_star_free<S: Sink>(
         (channel (S.written sink.new) (S.faults sink.new) buffer.new)
         (star_free_text alphabet.now max_table max_nodes answer.now) }
 {
+    say_head(alloc, sink, buffer, answer, max_table, max_nodes)?;
+    say_body(alloc, sink, buffer, alphabet, answer)
+}
+
+/// Says the first line of the section. Condition: the buffer is not broken.
+fn say_head<S: Sink>(
+    alloc: Global,
+    sink: &mut S,
+    buffer: &mut Buffer,
+    answer: &SfAnswer,
+    max_table: u32,
+    max_nodes: u32,
+) -> Result<(), SayFault>
+    requires whole { buffer.old.broken ≡ false }
+    ensures { Says (channel (S.written sink.old) (S.faults sink.old) buffer.old) result
+        (channel (S.written sink.new) (S.faults sink.new) buffer.new)
+        (star_free_head max_table max_nodes answer.now) }
+{
+    let mut line = Vec::new(alloc);
+    let rendered = push_star_free_head(&mut line, answer, max_table, max_nodes);
+    say_rendered(sink, buffer, rendered, &mut line)
+}
+
+/// Says the lines behind the first one. Conditions as for the section.
+fn say_body<S: Sink>(
+    alloc: Global,
+    sink: &mut S,
+    buffer: &mut Buffer,
+    alphabet: &Alphabet,
+    answer: &SfAnswer,
+) -> Result<(), SayFault>
+    requires letters { IsStarFreeOver (length alphabet.now) answer.now }
+    requires whole { buffer.old.broken ≡ false }
+    ensures { Says (channel (S.written sink.old) (S.faults sink.old) buffer.old) result
+        (channel (S.written sink.new) (S.faults sink.new) buffer.new)
+        (star_free_body alphabet.now answer.now) }
+{
     match answer {
         SfAnswer::Yes(list) => say_list(alloc, sink, buffer, alphabet, list),
         SfAnswer::No(found) => say_loop(alloc, sink, buffer, alphabet, found),
-        SfAnswer::TableLimit => {
-            say_number(alloc, sink, buffer, b"starfree limit table", max_table)
-        }
-        SfAnswer::Depth => say(sink, buffer, b"starfree limit depth 400\n"),
-        SfAnswer::Nodes => say_number(alloc, sink, buffer, b"starfree limit nodes", max_nodes),
+        SfAnswer::TableLimit | SfAnswer::Depth | SfAnswer::Nodes => Ok(()),
     }
 }
 
@@ -61,7 +94,7 @@ fn say_list<S: Sink>(
         (list_text alphabet.now list.now) }
 {
     say_nodes(alloc, sink, buffer, alphabet, list)?;
-    say_number(alloc, sink, buffer, b"root", list.root())
+    say_number_line(alloc, sink, buffer, b"root", list.root())
 }
 
 /// Says the number of nodes, and a line for each. Conditions as for the section.
@@ -88,24 +121,6 @@ fn say_nodes<S: Sink>(
     Ok(())
 }
 
-/// Says a line with a name and a number. Condition: the buffer is not broken.
-fn say_number<S: Sink>(
-    alloc: Global,
-    sink: &mut S,
-    buffer: &mut Buffer,
-    name: &[u8],
-    number: u32,
-) -> Result<(), SayFault>
-    requires whole { buffer.old.broken ≡ false }
-    ensures { Says (channel (S.written sink.old) (S.faults sink.old) buffer.old) result
-        (channel (S.written sink.new) (S.faults sink.new) buffer.new)
-        (number_line name.now number) }
-{
-    let mut line = Vec::new(alloc);
-    let rendered = push_number_line(&mut line, name, number);
-    say_rendered(sink, buffer, rendered, &mut line)
-}
-
 /// Says words that never settle. Conditions as for the section.
 fn say_loop<S: Sink>(
     alloc: Global,
@@ -125,21 +140,30 @@ fn say_loop<S: Sink>(
     say_rendered(sink, buffer, rendered, &mut text)
 }
 
-/// Puts words that never settle behind a text, each in a line.
+/// Puts the first line of the section behind a text.
+pub(crate) fn push_star_free_head(
+    text: &mut Vec<u8>,
+    answer: &SfAnswer,
+    max_table: u32,
+    max_nodes: u32,
+) -> Result<(), Memory>
+    ensures { OnOk result
+        (text.new.items ≡ text.old.items ++ star_free_head max_table max_nodes answer.now) }
+{
+    match answer {
+        SfAnswer::Yes(_) => push_bytes(text, b"starfree yes\n"),
+        SfAnswer::No(_) => push_bytes(text, b"starfree no\n"),
+        SfAnswer::TableLimit => push_number_line(text, b"starfree limit table", max_table),
+        SfAnswer::Depth => push_bytes(text, b"starfree limit depth 400\n"),
+        SfAnswer::Nodes => push_number_line(text, b"starfree limit nodes", max_nodes),
+    }
+}
+
+/// Puts the words and the numbers of their powers behind a text, each in a line.
 fn push_loop(text: &mut Vec<u8>, alphabet: &Alphabet, found: &Loop) -> Result<(), Memory>
     requires { IsLoopOver (length alphabet.now) found.now }
     ensures { OnOk result
         (text.new.items ≡ text.old.items ++ loop_text alphabet.now found.now) }
-{
-    push_bytes(text, b"starfree no\n")?;
-    push_loop_lines(text, alphabet, found)
-}
-
-/// Puts the words and the numbers of their powers behind a text, each in a line.
-fn push_loop_lines(text: &mut Vec<u8>, alphabet: &Alphabet, found: &Loop) -> Result<(), Memory>
-    requires { IsLoopOver (length alphabet.now) found.now }
-    ensures { OnOk result
-        (text.new.items ≡ text.old.items ++ loop_lines alphabet.now found.now) }
 {
     push_loop_words(text, alphabet, found)?;
     push_loop_numbers(text, found)
@@ -165,13 +189,11 @@ fn push_loop_numbers(text: &mut Vec<u8>, found: &Loop) -> Result<(), Memory>
     push_first_line(text, found.first_in)
 }
 
-/// Puts the head of a list behind a text.
+/// Puts the line of the number of nodes behind a text.
 fn push_list_head(text: &mut Vec<u8>, list: &SfList) -> Result<(), Memory>
     ensures { OnOk result (text.new.items ≡ text.old.items ++ list_head list.now) }
 {
-    push_bytes(text, b"starfree yes\nnodes ")?;
-    push_number(text, list.len())?;
-    push_bytes(text, b"\n")
+    push_number_line(text, b"nodes", list.len())
 }
 
 /// Puts the line of a node behind a text.

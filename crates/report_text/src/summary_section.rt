@@ -1,16 +1,14 @@
 //! The section `summary` of a report.
-ghost use Rattle.std.specs.Prelude.{◌≡◌, ◌++◌, ℕ, List, false, OnOk};
+ghost use Rattle.std.specs.Prelude.{◌≡◌, ◌++◌, false, OnOk};
 ghost use Rattle.report_buffer.specs.Saying.{Says, channel};
-ghost use Rattle.report_text.specs.StarFreeSection.{star_free_text};
-ghost use Rattle.report_text.specs.PiecewiseSection.{piecewise_text, r_trivial_text};
-ghost use Rattle.report_text.specs.LocalSection.{local_text};
-ghost use Rattle.report_text.specs.CommutativeSection.{commutative_text};
-ghost use Rattle.report_text.specs.SummarySection.{counts_text, summary_text, heads_text, star_free_head, piecewise_head, local_head, r_trivial_head, commutative_head};
+ghost use Rattle.report_text.specs.SummarySection.{counts_text, heads_text, summary_text};
 
-use crate::local_section::push_kind;
-use crate::piecewise_section::push_no_head;
+use crate::commutative_section::push_commutative_head;
+use crate::local_section::push_local_head;
+use crate::piecewise_section::{push_piecewise_head, push_r_trivial_head};
+use crate::star_free_section::push_star_free_head;
 use answers::{CWitness, LtAnswer, PtAnswer, PtWitness, SfAnswer};
-use report_buffer::{Buffer, SayFault, push_bytes, push_number_line, say_rendered};
+use report_buffer::{Buffer, SayFault, push_number_line, say_rendered};
 use std::alloc::Global;
 use syn_outside::Sink;
 use syn_words::Memory;
@@ -57,15 +55,9 @@ pub fn say_summary<S: Sink>(
     max_nodes: u32,
 ) -> Result<(), SayFault>
     requires whole { buffer.old.broken ≡ false }
-    ensures { (signs : List ℕ)
-        → Says (channel (S.written sink.old) (S.faults sink.old) buffer.old) result
+    ensures { Says (channel (S.written sink.old) (S.faults sink.old) buffer.old) result
         (channel (S.written sink.new) (S.faults sink.new) buffer.new)
-        (summary_text counts.now
-        (star_free_text signs max_table max_nodes answers.now.star_free)
-        (piecewise_text signs answers.now.piecewise)
-        (local_text signs max_table answers.now.local)
-        (r_trivial_text signs answers.now.r_trivial)
-        (commutative_text signs answers.now.commutative)) }
+        (summary_text counts.now max_table max_nodes answers.now) }
 {
     let mut text = Vec::new(alloc);
     let rendered = push_summary(&mut text, counts, answers, max_table, max_nodes);
@@ -81,7 +73,7 @@ fn push_summary(
     max_nodes: u32,
 ) -> Result<(), Memory>
     ensures { OnOk result (text.new.items ≡ text.old.items
-        ++ (counts_text counts.now ++ heads_text max_table max_nodes answers.now)) }
+        ++ summary_text counts.now max_table max_nodes answers.now) }
 {
     push_counts(text, counts)?;
     push_heads(text, answers, max_table, max_nodes)
@@ -114,71 +106,4 @@ fn push_heads(
     push_local_head(text, &answers.local, max_table)?;
     push_r_trivial_head(text, &answers.r_trivial)?;
     push_commutative_head(text, &answers.commutative)
-}
-
-/// Puts the first line of the section `starfree` behind a text.
-fn push_star_free_head(
-    text: &mut Vec<u8>,
-    answer: &SfAnswer,
-    max_table: u32,
-    max_nodes: u32,
-) -> Result<(), Memory>
-    ensures { OnOk result
-        (text.new.items ≡ text.old.items ++ star_free_head max_table max_nodes answer.now) }
-{
-    match answer {
-        SfAnswer::Yes(_) => push_bytes(text, b"starfree yes\n"),
-        SfAnswer::No(_) => push_bytes(text, b"starfree no\n"),
-        SfAnswer::TableLimit => push_number_line(text, b"starfree limit table", max_table),
-        SfAnswer::Depth => push_bytes(text, b"starfree limit depth 400\n"),
-        SfAnswer::Nodes => push_number_line(text, b"starfree limit nodes", max_nodes),
-    }
-}
-
-/// Puts the first line of the section `piecewise` behind a text.
-fn push_piecewise_head(text: &mut Vec<u8>, answer: &PtAnswer) -> Result<(), Memory>
-    ensures { OnOk result (text.new.items ≡ text.old.items ++ piecewise_head answer.now) }
-{
-    match answer {
-        PtAnswer::Yes(level) => push_number_line(text, b"piecewise yes", *level),
-        PtAnswer::No(witness) => push_no_head(text, witness),
-        PtAnswer::Wide(level) => push_number_line(text, b"piecewise limit width", *level),
-        PtAnswer::Pairs(level) => push_number_line(text, b"piecewise limit pairs", *level),
-        PtAnswer::NoneTo(level) => push_number_line(text, b"piecewise limit level", *level),
-    }
-}
-
-/// Puts the first line of the section `local` behind a text.
-fn push_local_head(text: &mut Vec<u8>, answer: &LtAnswer, max_table: u32) -> Result<(), Memory>
-    ensures { OnOk result (text.new.items ≡ text.old.items ++ local_head max_table answer.now) }
-{
-    match answer {
-        LtAnswer::Yes(level) => push_number_line(text, b"local yes", *level),
-        LtAnswer::No(witness) => push_kind(text, witness.kind),
-        LtAnswer::TableLimit => push_number_line(text, b"local limit table", max_table),
-        LtAnswer::WorkLimit => push_bytes(text, b"local limit work 200000000\n"),
-        LtAnswer::Wide(level) => push_number_line(text, b"local limit width", *level),
-        LtAnswer::Pairs(level) => push_number_line(text, b"local limit pairs", *level),
-        LtAnswer::NoneTo(level) => push_number_line(text, b"local limit level", *level),
-    }
-}
-
-/// Puts the first line of the section `rtrivial` behind a text.
-fn push_r_trivial_head(text: &mut Vec<u8>, answer: &Option<PtWitness>) -> Result<(), Memory>
-    ensures { OnOk result (text.new.items ≡ text.old.items ++ r_trivial_head answer.now) }
-{
-    match answer {
-        None => push_bytes(text, b"rtrivial yes\n"),
-        Some(_) => push_bytes(text, b"rtrivial no\n"),
-    }
-}
-
-/// Puts the first line of the section `commutative` behind a text.
-fn push_commutative_head(text: &mut Vec<u8>, answer: &Option<CWitness>) -> Result<(), Memory>
-    ensures { OnOk result (text.new.items ≡ text.old.items ++ commutative_head answer.now) }
-{
-    match answer {
-        None => push_bytes(text, b"commutative yes\n"),
-        Some(_) => push_bytes(text, b"commutative no\n"),
-    }
 }

@@ -3,10 +3,13 @@ ghost use Rattle.std.specs.Prelude.{◌≡◌, ◌<◌, ◌++◌, false, codes, 
 ghost use Rattle.parallel_table.specs.ProductTables.{cell};
 ghost use Rattle.report_buffer.specs.Saying.{Says, channel};
 ghost use Rattle.report_buffer.specs.Texts.{separated};
-ghost use Rattle.report_text.specs.TableSection.{section_text, table_text, table_head, table_limit_text, products_text};
+ghost use Rattle.report_text.specs.TableSection.{section_text, table_text, table_head, products_text};
 
+use crate::lines::say_number_line;
 use parallel_table::Table;
-use report_buffer::{Buffer, SayFault, push_bytes, push_gap, push_number, say_rendered};
+use report_buffer::{
+    Buffer, SayFault, push_bytes, push_gap, push_number, push_number_line, say_rendered,
+};
 use std::alloc::Global;
 use syn_outside::Sink;
 use syn_words::Memory;
@@ -29,25 +32,8 @@ pub fn say_table<S: Sink>(
 {
     match table {
         Some(table) => say_products(alloc, sink, buffer, table),
-        None => say_table_limit(alloc, sink, buffer, max_table),
+        None => say_number_line(alloc, sink, buffer, b"table limit", max_table),
     }
-}
-
-/// Says that there are more elements than the limit. Condition: the buffer is not broken.
-fn say_table_limit<S: Sink>(
-    alloc: Global,
-    sink: &mut S,
-    buffer: &mut Buffer,
-    max_table: u32,
-) -> Result<(), SayFault>
-    requires whole { buffer.old.broken ≡ false }
-    ensures { Says (channel (S.written sink.old) (S.faults sink.old) buffer.old) result
-        (channel (S.written sink.new) (S.faults sink.new) buffer.new)
-        (table_limit_text max_table) }
-{
-    let mut line = Vec::new(alloc);
-    let rendered = push_table_limit(&mut line, max_table);
-    say_rendered(sink, buffer, rendered, &mut line)
 }
 
 /// Says the number of elements, and a line for each. Condition: the buffer is not broken.
@@ -71,22 +57,11 @@ fn say_products<S: Sink>(
     Ok(())
 }
 
-/// Puts the line of a limit behind a text.
-fn push_table_limit(text: &mut Vec<u8>, max_table: u32) -> Result<(), Memory>
-    ensures { OnOk result (text.new.items ≡ text.old.items ++ table_limit_text max_table) }
-{
-    push_bytes(text, b"table limit ")?;
-    push_number(text, max_table)?;
-    push_bytes(text, b"\n")
-}
-
 /// Puts the head of the table behind a text.
 fn push_table_head(text: &mut Vec<u8>, table: &Table) -> Result<(), Memory>
     ensures { OnOk result (text.new.items ≡ text.old.items ++ table_head table.now) }
 {
-    push_bytes(text, b"table ")?;
-    push_number(text, table.side())?;
-    push_bytes(text, b"\n")
+    push_number_line(text, b"table", table.side())
 }
 
 /// Puts the line of an element behind a text: its products with each element.

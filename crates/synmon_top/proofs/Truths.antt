@@ -32,7 +32,7 @@ use Rattle.report_sections.specs.declared.sections.Section.TheVariants as sectio
 use Rattle.report_outcome.specs.declared.ending.Ending.{Ending}
 use Rattle.report_outcome.specs.declared.ending.Ending.TheVariants as ending
 use Rattle.report_outcome.specs.declared.ending.Stop.{Stop}
-use Rattle.report_sections.specs.Sections.{Limits, limits_of, Said, joined, sections_of, IsSection, AreSections, AreSaid}
+use Rattle.report_sections.specs.Sections.{Limits, limits_of, Said, joined, sections_of, AnswersStarFree, AnswersLocal, IsSection, AreSections, AreSaid}
 use Rattle.report_outcome.specs.declared.ending.Verdict.{Verdict}
 use Rattle.report_outcome.specs.declared.ending.Verdict.TheVariants as verdict
 use Rattle.report_outcome.specs.Inputs.{input_of, IsGiven, IsKnown}
@@ -100,10 +100,20 @@ module _ (signs : List ℕ) (L : List ℕ → Type 0) where
   order_true None h = h
   order_true (Some w) h = (h.context.behind.holds, h.first_in)
 
+  star_free_true : (limits : Limits) (a : SfAnswer) → AnswersStarFree limits (length signs) L a
+      → IsTrueOfPowers signs L limits a
+  star_free_true limits a h =
+      powers_true limits h.monoid a h.has_table h.syntactic h.table h.answered h.tells
+
+  local_true : (limits : Limits) (a : LtAnswer) → AnswersLocal limits (length signs) L a
+      → IsTrueOfFactors signs L limits a
+  local_true limits a h =
+      factors_true limits h.monoid a h.has_table h.syntactic h.table h.answered h.tells
+
   section_true : (s : Section) (limits : Limits) (one : Said) → IsSection s limits signs L one
       → TellsTruth signs L s limits one.text
   section_true section.Automaton limits one h =
-      record { automaton = h.automaton; printed = h.text; minimal = h.minimal }
+      record { automaton = h.answer; printed = h.text; minimal = h.right }
   section_true section.Monoid limits one h = record {
     monoid = h.monoid;
     rules = h.rules;
@@ -123,52 +133,33 @@ module _ (signs : List ℕ) (L : List ℕ → Type 0) where
         h.monoid.graphs.words (syntactic_congruence (length signs) L) h.syntactic.graphs.words
         h.boxes h.diagram.diagram;
   }
-  section_true section.StarFree limits one h = (
-    h.answer,
-    powers_true limits h.monoid h.answer h.has_table h.syntactic h.table h.answered h.tells,
-    h.text,
-  )
+  section_true section.StarFree limits one h =
+      (h.answer, star_free_true limits h.answer h.right, h.text)
   section_true section.Piecewise limits one h =
-      (h.answer, subwords_true limits h.answer h.answered, h.text)
-  section_true section.Local limits one h = (
-    h.answer,
-    factors_true limits h.monoid h.answer h.has_table h.syntactic h.table h.answered h.tells,
-    h.text,
-  )
-  section_true section.RTrivial limits one h = (h.answer, rows_true h.answer h.answered, h.text)
+      (h.answer, subwords_true limits h.answer h.right.answered, h.text)
+  section_true section.Local limits one h =
+      (h.answer, local_true limits h.answer h.right, h.text)
+  section_true section.RTrivial limits one h =
+      (h.answer, rows_true h.answer h.right.answered, h.text)
   section_true section.Commutative limits one h =
-      (h.answer, order_true h.answer h.answered, h.text)
+      (h.answer, order_true h.answer h.right, h.text)
   section_true section.Table limits one h = record {
-    words = h.monoid.graphs.words;
-    table = h.table;
+    words = h.right.monoid.graphs.words;
+    table = h.answer;
     printed = h.text;
-    elements = h.syntactic.graphs.words;
-    products = h.products;
+    elements = h.right.syntactic.graphs.words;
+    products = h.right.products;
   }
   section_true section.Summary limits one h = record {
     counts = h.counts;
     counted = h.counted;
-    star_free = h.star_free_said.answer;
-    powers = powers_true limits h.star_free_said.monoid h.star_free_said.answer
-        h.star_free_said.has_table h.star_free_said.syntactic h.star_free_said.table
-        h.star_free_said.answered h.star_free_said.tells;
-    piecewise = h.piecewise_said.answer;
-    subwords = subwords_true limits h.piecewise_said.answer h.piecewise_said.answered;
-    local = h.local_said.answer;
-    factors = factors_true limits h.local_said.monoid h.local_said.answer h.local_said.has_table
-        h.local_said.syntactic h.local_said.table h.local_said.answered h.local_said.tells;
-    r_trivial = h.r_trivial_said.answer;
-    rows = rows_true h.r_trivial_said.answer h.r_trivial_said.answered;
-    commutative = h.commutative_said.answer;
-    order = order_true h.commutative_said.answer h.commutative_said.answered;
-    printed = rw (
-      h.text,
-      h.star_free_said.text,
-      h.piecewise_said.text,
-      h.local_said.text,
-      h.r_trivial_said.text,
-      h.commutative_said.text,
-    ) refl;
+    answers = h.answers;
+    powers = star_free_true limits h.answers.star_free h.answered.star_free;
+    subwords = subwords_true limits h.answers.piecewise h.answered.piecewise.answered;
+    factors = local_true limits h.answers.local h.answered.local;
+    rows = rows_true h.answers.r_trivial h.answered.r_trivial.answered;
+    order = order_true h.answers.commutative h.answered.commutative;
+    printed = h.text;
   }
 
   sections_true : (sections : List Section) (limits : Limits) (all : List Said)

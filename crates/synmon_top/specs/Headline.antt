@@ -44,6 +44,7 @@ use Rattle.report_text.specs.CommutativeSection.{commutative_text}
 use Rattle.report_text.specs.TableSection.{section_text}
 use Rattle.report_text.specs.SummarySection.{summary_text}
 use Rattle.report_text.specs.declared.summary_section.Counts.{Counts}
+use Rattle.report_text.specs.declared.summary_section.Summary.{Summary}
 use Rattle.syn_outside.specs.NamedFiles.{NamedFiles}
 use Rattle.automaton_file.specs.FileText.{SourceText, IsSource, language_of}
 use Rattle.command_line.specs.declared.request.Request.{Request}
@@ -175,19 +176,13 @@ module _ (signs : List ℕ) (L : List ℕ → Type 0) where
   pub record PrintsSummary (limits : Limits) (text : List ℕ) : Type 0 where
     pub counts : Counts
     pub counted : AreCounts limits.size signs L counts
-    pub star_free : SfAnswer
-    pub powers : IsTrueOfPowers limits star_free
-    pub piecewise : PtAnswer
-    pub subwords : IsTrueOfSubwords limits piecewise
-    pub local : LtAnswer
-    pub factors : IsTrueOfFactors limits local
-    pub r_trivial : Option PtWitness
-    pub rows : IsTrueOfRows r_trivial
-    pub commutative : Option CWitness
-    pub order : IsTrueOfOrder commutative
-    pub printed : text ≡ summary_text counts (star_free_text signs limits.table limits.nodes star_free)
-        (piecewise_text signs piecewise) (local_text signs limits.table local)
-        (r_trivial_text signs r_trivial) (commutative_text signs commutative)
+    pub answers : Summary
+    pub powers : IsTrueOfPowers limits answers.star_free
+    pub subwords : IsTrueOfSubwords limits answers.piecewise
+    pub factors : IsTrueOfFactors limits answers.local
+    pub rows : IsTrueOfRows answers.r_trivial
+    pub order : IsTrueOfOrder answers.commutative
+    pub printed : text ≡ summary_text counts limits.table limits.nodes answers
 
   -- What a section tells of L.
   abbrev pub TellsTruth : Section → Limits → List ℕ → Type 0

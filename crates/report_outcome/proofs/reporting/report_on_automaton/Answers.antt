@@ -3,11 +3,11 @@ use Rattle.language_theory.specs.Congruence.{Syntactic}
 use Rattle.language_theory.specs.Nerode.{accepted}
 use Rattle.language_theory.specs.Representatives.{HasMoreClasses}
 use Rattle.report_sections.specs.Sections.{limits_of}
-use Rattle.report_sections.specs.Needs.{NeedsElements}
+use Rattle.report_sections.specs.CommandNeeds.{NeedsElements}
 use Rattle.report_sections.specs.Answers.{Values}
 use Rattle.report_outcome.specs.declared.ending.Stop.TheVariants as stop
 use Rattle.report_outcome.proofs.Elements.{monoid_of_source, many_elements, few_elements, from_some, some_there}
-use Rattle.report_sections.proofs.Needs.{needs_there, green_needs_elements, table_needs_elements}
+use Rattle.report_sections.proofs.CommandNeeds.{needs_there, green_needs_elements, table_needs_elements}
 use Rattle.report_outcome.proofs.Outcomes.{ends_stopped}
 use Rattle.automaton_file.specs.FileText.{source_text}
 use Rattle.report_outcome.proofs.reporting.report_on_automaton.Goals as goal

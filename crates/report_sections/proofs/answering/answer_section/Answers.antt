@@ -1,27 +1,23 @@
-use Rattle.std.proofs.Common.{length, refl, sym, subst, rules}
+use Rattle.std.proofs.Common.{length}
 use Rattle.automaton_file.specs.FileText.{language_of}
-use Rattle.report_sections.specs.Answers.{HasTable, values_of, said_of}
-use Rattle.report_sections.specs.Sections.{IsSection, IsTableSection}
-use Rattle.report_sections.specs.declared.sections.Section.{Section}
-use Rattle.report_sections.specs.declared.answering.Answer.TheVariants as answer
-use Rattle.report_sections.proofs.Tables.{table_of_monoid}
+use Rattle.report_sections.specs.Answers.{values_of}
+use Rattle.report_sections.proofs.Locals.{local_over}
+use Rattle.report_sections.proofs.StarFreeLists.{star_free_over}
 use Rattle.report_sections.proofs.answering.answer_section.Goals as goal
 
-pub returns-in-Table-clause-said : goal.returns-in-Table-clause-said
-returns-in-Table-clause-said c =
+pub returns-in_ok-answer_star_free-in-StarFree-clause-sayable :
+    goal.returns-in_ok-answer_star_free-in-StarFree-clause-sayable
+returns-in_ok-answer_star_free-in-StarFree-clause-sayable c =
     let v = values_of c.args.values.now in
-    let has : HasTable v = search rules in
-    let is = c.requires.values.syntactic has.monoid has.there in
-    let section : IsTableSection v.limits.table v.source.letters (language_of v.source)
-    (said_of v answer.Table) = record {
-      monoid = has.monoid;
-      syntactic = is;
-      table = v.table;
-      products = table_of_monoid (length v.source.letters) (language_of v.source) has.monoid is
-          v.limits.table v.table has.table;
-      text = refl;
-      limited = refl;
-    } in
-    let P : Section → Type 0 = λ s.
-    IsSection s v.limits v.source.letters (language_of v.source) (said_of v answer.Table) in
-    subst P (sym c.in-Table.is) section
+    let h = c.in_ok-answer_star_free-in-StarFree.ensures in
+    star_free_over (length v.source.letters) (language_of v.source) h.monoid v.limits.nodes
+    h.has_table c.in_ok-answer_star_free-in-StarFree.field-0 h.answered
+
+pub returns-in_ok-answer_local-in-Local-clause-sayable :
+    goal.returns-in_ok-answer_local-in-Local-clause-sayable
+returns-in_ok-answer_local-in-Local-clause-sayable c =
+    let v = values_of c.args.values.now in
+    let h = c.in_ok-answer_local-in-Local.ensures in
+    local_over (length v.source.letters) (language_of v.source) h.monoid.graphs.words
+    h.syntactic.graphs.words h.has_table v.limits.level v.limits.pairs
+    c.in_ok-answer_local-in-Local.field-0 h.answered

@@ -10,7 +10,7 @@ abbrev pub invariant-loop-section : goal.invariant-loop-section
 invariant-loop-section l =
     let v = values_of l.values in
     record {
-      sayable : All (IsSayable v) l.answers.items;
+      sayable : All (IsSayable v.source.letters) l.answers.items;
       said : AreSections (take l.section-index l.sections) v.limits v.source.letters
-          (language_of v.source) (map (said_of v) l.answers.items);
+          (language_of v.source) (map (said_of v.source.letters v.limits) l.answers.items);
     }

@@ -15,11 +15,11 @@ returns g c =
     let marks = c.args.green.now.idempotents in
     let P : ℕ → Type 0 = λ n.
     Says (channel (g.S.Sink.written c.say_boxes.new.sink) (g.S.Sink.faults c.say_boxes.new.sink)
-    c.say_boxes.new.buffer) c.say_idempotents.result
-    (channel (g.S.Sink.written c.say_idempotents.new.sink)
-    (g.S.Sink.faults c.say_idempotents.new.sink) c.say_idempotents.new.buffer)
+    c.say_boxes.new.buffer) c.say_number_line.result
+    (channel (g.S.Sink.written c.say_number_line.new.sink)
+    (g.S.Sink.faults c.say_number_line.new.sink) c.say_number_line.new.buffer)
     (idempotents_text n) in
-    says-then c.say_idempotents.result c.in_ok-say_boxes.ensures.said
+    says-then c.say_number_line.result c.in_ok-say_boxes.ensures.said
     c.in_ok-say_boxes.ensures.count
     (subst P (c.idempotents_of.ensures ∙ ap (marks_below marks) c.requires.boxes.size)
-    c.say_idempotents.ensures)
+    c.say_number_line.ensures)

@@ -11,5 +11,5 @@ returns-in_err-say_nodes g c =
 pub returns : goal.returns
 returns g c =
     rw (← c.root.ensures.root)
-    (says-then c.say_number.result c.in_ok-say_nodes.ensures.said c.in_ok-say_nodes.ensures.count
-    c.say_number.ensures)
+    (says-then c.say_number_line.result c.in_ok-say_nodes.ensures.said c.in_ok-say_nodes.ensures.count
+    c.say_number_line.ensures)

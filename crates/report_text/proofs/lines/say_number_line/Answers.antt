@@ -1,6 +1,6 @@
 use Rattle.report_buffer.specs.Texts.{number_line}
 use Rattle.report_buffer.proofs.Channels.{rendered-alone}
-use Rattle.report_text.proofs.star_free_section.say_number.Goals as goal
+use Rattle.report_text.proofs.lines.say_number_line.Goals as goal
 
 pub returns : goal.returns
 returns g c =
