@@ -1,2 +1,5 @@
 pub mod OptionRows
 pub mod Lines
+pub mod Ranges
+mod Filled
+pub mod Taken

@@ -1,7 +1,8 @@
 -- The words of a line ask for one request.
-use Rattle.std.proofs.Common.{◌≡◌, ◌∙◌, ◌<◌, ◌^◌, ℕ, List, Option, Some, length, get_or, refl, sym, ap, arith, subst}
+use Rattle.std.proofs.Common.{◌≡◌, ◌∙◌, ◌<◌, ◌^◌, ℕ, List, Option, Some, length, get_or, refl, sym, ap, arith, subst, inl, inr}
 use Rattle.std.specs.Prelude.{cond, codes}
 use Rattle.std.specs.Str.{bytes_eq}
+use Rattle.std.proofs.lemmas.Bool.{cases_lt}
 use Rattle.std.proofs.lemmas.Fmt.{decimal_injective}
 use Rattle.clap.specs.Words.{Row}
 use Rattle.command_line.specs.declared.commands.Command.{Command}
@@ -9,9 +10,9 @@ use Rattle.command_line.specs.declared.commands.Command.TheVariants as command
 use Rattle.command_line.specs.declared.fault.LineFault.{LineFault}
 use Rattle.command_line.specs.declared.fault.LineFault.TheVariants as fault
 use Rattle.command_line.specs.declared.request.Request.{Request}
-use Rattle.command_line.specs.Tables.{OptionRow, options, option_at, command_word}
+use Rattle.command_line.specs.Tables.{NumberOption, number_options, option_at, command_word}
 use Rattle.command_line.specs.Parsing.{rows_of_line}
-use Rattle.command_line.specs.Line.{IsLine, IsSize, IsSizeFor, IsNumberIn, AreNumbersIn, IsFaultOf, IsInRange, numbers_of}
+use Rattle.command_line.specs.Line.{IsLine, IsSize, IsSizeFor, IsNumberIn, AreNumbersIn, IsFaultOf, IsInRange, IsTaken, IsNoCommand, IsFirstBad, IsBadNumber, IsBadSize, numbers_of}
 
 -- the command with a word
 named : List ℕ → Command
@@ -48,13 +49,13 @@ one_text : (o : Option (List ℕ)) (u v : List ℕ) → o ≡ Some u → o ≡ S
 one_text o u v p q = let both : Some u ≡ Some v = sym p ∙ q in cc
 
 -- an option has one number
-one_number : (given : List Row) (option : OptionRow) (m n : ℕ) → option.most < 2 ^ 64
+one_number : (given : List Row) (option : NumberOption) (m n : ℕ) → option.most < 2 ^ 64
     → IsNumberIn given option m → IsNumberIn given option n → m ≡ n
 one_number given option m n small p q =
-    decimal_injective m n (omega (arith, p.most, small)) (omega (arith, q.most, small))
+    decimal_injective m n (omega (arith, p.within.most, small)) (omega (arith, q.within.most, small))
     (sym p.spelled ∙ q.spelled)
 
-number_at : (given : List Row) (r s : Request) (place : ℕ) → place < length options
+number_at : (given : List Row) (r s : Request) (place : ℕ) → place < length number_options
     → (option_at place).most < 2 ^ 64
     → AreNumbersIn given (numbers_of r) → AreNumbersIn given (numbers_of s)
     → get_or (numbers_of r) place 0 ≡ get_or (numbers_of s) place 0
@@ -122,22 +123,14 @@ generate_size words r line e = subst (λ (c : Command). IsSizeFor c r.operand r.
 
 pub line_in_range : (words : List (List ℕ)) (r : Request) → IsLine words r → IsInRange r
 line_in_range words r line = record {
+  numbers = λ place h. (line.numbers place h).within;
   size = λ e. let is = generate_size words r line e in (is.least, is.most);
-  subsets = (line.numbers 0 (omega arith)).most;
-  elements = (line.numbers 1 (omega arith)).most;
-  table = (line.numbers 2 (omega arith)).most;
-  nodes = (line.numbers 3 (omega arith)).most;
-  some_level = (line.numbers 4 (omega arith)).least;
-  level = (line.numbers 4 (omega arith)).most;
-  pairs = (line.numbers 5 (omega arith)).most;
-  least_workers = (line.numbers 6 (omega arith)).least;
-  workers = (line.numbers 6 (omega arith)).most;
 }
 
 pub line_without_fault : (words : List (List ℕ)) (r : Request) (f : LineFault) → IsLine words r
     → IsFaultOf words f → f ≡ fault.Memory
 line_without_fault words r fault.Words line h =
-    absurd (h (command_word r.command) r.operand line.taken)
+    absurd (h line.taken.faultless)
 line_without_fault words r fault.Command line h =
     absurd (h.unknown r.command (one_text _ _ _ h.taken.first line.taken.first))
 line_without_fault words r (fault.Number place) line h =
@@ -149,3 +142,54 @@ line_without_fault words r fault.Size line h =
     absurd (h.bad r.size (subst (λ (operand : List ℕ). IsSize operand r.size) same
     (generate_size words r line is)))
 line_without_fault words r fault.Memory line h = refl
+
+-- words of no command name none
+unknown_named : (words : List (List ℕ)) (c : Command) (operand : List ℕ) → IsNoCommand words
+    → IsTaken words (command_word c) operand → ⊥
+unknown_named words c operand h taken =
+    h.unknown c (one_text _ _ _ h.taken.first taken.first)
+
+-- one option is the first without a number in its range
+one_place : (given : List Row) (i j : ℕ) → IsFirstBad given i → IsFirstBad given j → i ≡ j
+one_place given i j p q = elim (cases_lt i j) [
+  | inl below ↦ let n = q.before i below in absurd (p.bad n.0 n.1)
+  | inr over ↦ elim (cases_lt j i) [
+    | inl above ↦ let n = p.before j above in absurd (q.bad n.0 n.1)
+    | inr under ↦ omega (arith, over, under)
+  ]
+]
+
+-- an option has no number in its range, or each has one
+number_or_size : (words : List (List ℕ)) (place : ℕ) → IsBadNumber words place → IsBadSize words
+    → ⊥
+number_or_size words place p q =
+    let n = q.numbers place p.first.within in p.first.bad n.0 n.1
+
+pub one_fault : (words : List (List ℕ)) (f g : LineFault) → IsFaultOf words f → IsFaultOf words g
+    → ¬ (f ≡ fault.Memory) → ¬ (g ≡ fault.Memory) → f ≡ g
+one_fault words fault.Memory g p q m n = absurd (m refl)
+one_fault words fault.Words fault.Memory p q m n = absurd (n refl)
+one_fault words fault.Words fault.Words p q m n = refl
+one_fault words fault.Words fault.Command p q m n = absurd (p q.taken.faultless)
+one_fault words fault.Words (fault.Number j) p q m n = absurd (p q.taken.faultless)
+one_fault words fault.Words fault.Size p q m n = absurd (p q.taken.faultless)
+one_fault words fault.Command fault.Memory p q m n = absurd (n refl)
+one_fault words fault.Command fault.Words p q m n = absurd (q p.taken.faultless)
+one_fault words fault.Command fault.Command p q m n = refl
+one_fault words fault.Command (fault.Number j) p q m n =
+    absurd (unknown_named words q.command q.operand p q.taken)
+one_fault words fault.Command fault.Size p q m n =
+    absurd (unknown_named words command.Generate q.operand p q.taken)
+one_fault words (fault.Number i) fault.Memory p q m n = absurd (n refl)
+one_fault words (fault.Number i) fault.Words p q m n = absurd (q p.taken.faultless)
+one_fault words (fault.Number i) fault.Command p q m n =
+    absurd (unknown_named words p.command p.operand q p.taken)
+one_fault words (fault.Number i) (fault.Number j) p q m n =
+    ap (λ (place : ℕ). fault.Number place) (one_place (rows_of_line words) i j p.first q.first)
+one_fault words (fault.Number i) fault.Size p q m n = absurd (number_or_size words i p q)
+one_fault words fault.Size fault.Memory p q m n = absurd (n refl)
+one_fault words fault.Size fault.Words p q m n = absurd (q p.taken.faultless)
+one_fault words fault.Size fault.Command p q m n =
+    absurd (unknown_named words command.Generate p.operand q p.taken)
+one_fault words fault.Size (fault.Number j) p q m n = absurd (number_or_size words j q p)
+one_fault words fault.Size fault.Size p q m n = refl

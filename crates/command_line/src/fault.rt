@@ -6,7 +6,7 @@ use thiserror::Error;
 /// Why the words are no line.
 #[derive(Clone, Copy, Debug, PartialEq, Eq, Error)]
 pub enum LineFault {
-    /// The words are not a command word, an operand and options, each with a value and none twice.
+    /// `clap` finds a fault: the words are not a command word, an operand and options, each with a value and none twice.
     #[error("bad words")]
     Words,
     /// The first word that is no option is no command.

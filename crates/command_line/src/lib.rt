@@ -11,6 +11,9 @@ mod request;
 
 pub use commands::Command;
 pub use fault::LineFault;
-pub use laws::{a_line_asks_for_one_request, a_line_has_no_fault};
+pub use laws::{
+    a_line_asks_for_one_request, a_line_has_no_fault, words_have_one_fault,
+    words_that_are_taken_give_both_words,
+};
 pub use reading::read_line;
 pub use request::{Name, Request};

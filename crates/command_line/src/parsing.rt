@@ -1,12 +1,12 @@
 //! The words of a line as `clap` reads them: one simple command without subcommands.
-ghost use Rattle.std.specs.Prelude.{◌≡◌, [], ◌∷◌, true, false, map, string_bytes, codes, option_map, slice_index_or, Some, IfOk, IfErr, OnOk};
+ghost use Rattle.std.specs.Prelude.{◌≡◌, [], ◌∷◌, true, false, map, string_bytes, codes, option_map, slice_index_or, is_some, Some, IfOk, IfErr, OnOk};
 ghost use Rattle.clap.specs.Words.{app_of, first_of, found_of, new_app, rows_of, rule_of, with_rule};
-ghost use Rattle.command_line.specs.Tables.{options};
+ghost use Rattle.command_line.specs.Tables.{option_words};
 ghost use Rattle.command_line.specs.Parsing.{line_app, two_words, valued, wanted, faults_of, rows_of_line};
 ghost use Rattle.command_line.specs.Line.{IsFaultOf};
 
 use crate::fault::LineFault;
-use crate::options::{OPTION_COUNT, option_at};
+use crate::options::{NUMBER_COUNT, option_at};
 use clap::error::ErrorKind;
 use clap::{Arg, ArgAction, ArgMatches, Command};
 use std::alloc::{AllocError, Global};
@@ -35,7 +35,7 @@ fn line_command<'a>(alloc: Global) -> Result<Command<'a>, AllocError>
     ensures { IfOk result (λ c. app_of c ≡ line_app) }
 {
     let mut command = words_command(alloc)?;
-    for place in 0..OPTION_COUNT {
+    for place in 0..NUMBER_COUNT {
         command = with_valued(alloc, command, option_at(place).word)?;
     }
     Ok(command)
@@ -77,6 +77,14 @@ fn wanted_arg<'a>(alloc: Global, name: &'a str) -> Arg<'a>
     ensures local { result.global ≡ false }
 {
     Arg::new(alloc, name).required(true).action(ArgAction::Set)
+}
+
+/// The value of a name that the words give. Condition: they give one.
+pub(crate) fn given<'a>(matches: &ArgMatches<'a>, name: &str) -> &'a str
+    requires { is_some (first_of name.now (rows_of (found_of matches.now))) ≡ true }
+    ensures { first_of name.now (rows_of (found_of matches.now)) ≡ Some result.now }
+{
+    value_of(matches, name).unwrap()
 }
 
 /// The value of a name in what the words give.

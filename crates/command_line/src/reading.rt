@@ -6,8 +6,8 @@ ghost use Rattle.command_line.specs.Line.{IsLine, IsSize, IsSizeFor, IsNumberIn,
 
 use crate::commands::{Command, command_of};
 use crate::fault::LineFault;
-use crate::options::{OPTION_COUNT, OptionRow, option_at};
-use crate::parsing::{parse, value_of};
+use crate::options::{NUMBER_COUNT, NumberOption, option_at};
+use crate::parsing::{given, parse, value_of};
 use crate::request::{Name, Request};
 use clap::ArgMatches;
 use std::alloc::Global;
@@ -20,24 +20,20 @@ const MOST_SIZE: u32 = 1_000;
 
 /// What the words after the program's name ask for. A fault comes exactly where the words have it, and none that stands
 /// before it in `LineFault`.
-pub fn read_line(alloc: Global, words: &[String]) -> Result<Request, LineFault>
+pub fn read_line<'a>(alloc: Global, words: &'a [String]) -> Result<Request<'a>, LineFault>
     ensures line { IfOk result (λ request. IsLine (map string_bytes words.now) request) }
     ensures range { IfOk result IsInRange }
     ensures fault { IfErr result (IsFaultOf (map string_bytes words.now)) }
 {
     let matches = parse(alloc, words)?;
-    let Some(word) = value_of(&matches, "command") else {
-        return Err(LineFault::Words);
-    };
-    let Some(operand) = value_of(&matches, "operand") else {
-        return Err(LineFault::Words);
-    };
+    let word = given(&matches, "command");
+    let operand = given(&matches, "operand");
     let Some(command) = command_of(word) else {
         return Err(LineFault::Command);
     };
     let numbers = read_numbers(&matches)?;
     let size = size_for(command, operand)?;
-    let operand = Name::of(alloc, operand)?;
+    let operand = Name::of(operand);
     let [subsets, elements, table, nodes, level, pairs, workers] = numbers;
     Ok(Request {
         command,
@@ -54,14 +50,14 @@ pub fn read_line(alloc: Global, words: &[String]) -> Result<Request, LineFault>
 }
 
 /// The number of each option, in the order of their table.
-fn read_numbers(matches: &ArgMatches<'_>) -> Result<[u32; OPTION_COUNT], LineFault>
+fn read_numbers(matches: &ArgMatches<'_>) -> Result<[u32; NUMBER_COUNT], LineFault>
     ensures numbers { IfOk result
         (λ numbers. AreNumbersIn (rows_of (found_of matches.now)) numbers) }
     ensures number { IfErr result (λ fault. (place : ℕ) × (fault ≡ LineFault.Number place)
         × IsFirstBad (rows_of (found_of matches.now)) place) }
 {
-    let mut numbers = [0; OPTION_COUNT];
-    for place in 0..OPTION_COUNT {
+    let mut numbers = [0; NUMBER_COUNT];
+    for place in 0..NUMBER_COUNT {
         match read_option(matches, option_at(place)) {
             Some(number) => numbers[place] = number,
             None => return Err(LineFault::Number {
@@ -73,7 +69,7 @@ fn read_numbers(matches: &ArgMatches<'_>) -> Result<[u32; OPTION_COUNT], LineFau
 }
 
 /// The number of an option. Condition: its usual number is in its range.
-fn read_option(matches: &ArgMatches<'_>, option: OptionRow) -> Option<u32>
+fn read_option(matches: &ArgMatches<'_>, option: NumberOption) -> Option<u32>
     requires least { option.least ≤ option.usual }
     requires most { option.usual ≤ option.most }
     ensures some { IfSome result (λ n. IsNumberIn (rows_of (found_of matches.now))

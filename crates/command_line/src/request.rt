@@ -1,50 +1,47 @@
 //! What the words of a line ask for.
-ghost use Rattle.std.specs.Prelude.{◌≡◌, IfOk};
+ghost use Rattle.std.specs.Prelude.{◌≡◌};
 
 use crate::commands::Command;
-use std::alloc::{AllocError, Global};
 use std::marker::Model;
 
-/// The name of a file. Its value is the list of its bytes.
+/// The name of a file, a word of the line. Its value is the list of its bytes.
 #[derive(Drop)]
-pub struct Name {
-    text: String,
+pub struct Name<'a> {
+    text: &'a str,
 }
 
-impl Model for Name {
-    ghost use Rattle.std.specs.Prelude.{List, ℕ, string_bytes};
+impl<'a> Model for Name<'a> {
+    ghost use Rattle.std.specs.Prelude.{List, ℕ};
 
     ghost Value = { List ℕ };
 
-    ghost view = { λ n. string_bytes n.text };
+    ghost view = { λ n. n.text.now };
 }
 
-impl Name {
+impl<'a> Name<'a> {
     /// The name that is this text.
-    pub(crate) fn of(alloc: Global, text: &str) -> Result<Name, AllocError>
-        ensures { IfOk result (λ name. name ≡ text.now) }
+    pub(crate) fn of(text: &'a str) -> Name<'a>
+        ensures { result ≡ text.now }
     {
-        Ok(Name {
-            text: String::from_str(alloc, text)?,
-        })
+        Name { text }
     }
 
     /// The name as a text.
-    pub fn text(&self) -> &str
+    pub fn text(&self) -> &'a str
         ensures { result.now ≡ self.now }
     {
-        self.text.as_str()
+        self.text
     }
 }
 
 /// What the words of a line ask for: a command, the name of the file that it is about or the size of the generated file,
 /// and the number of each option.
 #[derive(Drop)]
-pub struct Request {
+pub struct Request<'a> {
     /// What to print.
     pub command: Command,
     /// The name of the file, or the digits of the size for `generate`.
-    pub operand: Name,
+    pub operand: Name<'a>,
     /// The size of the generated file; 0 for a command other than `generate`.
     pub size: u32,
     /// The most sets of states that words may lead to.

@@ -14,7 +14,7 @@ use Rattle.command_line.specs.declared.fault.LineFault.{LineFault}
 use Rattle.command_line.specs.declared.fault.LineFault.TheVariants as line
 use Rattle.command_line.specs.Line.{IsLine, IsAccepted, IsFaultOf}
 use Rattle.command_line.proofs.Lines.{line_without_fault}
-use Rattle.report_sections.specs.Sections.{Limits, Said, sections_of, limits_of, AreSections, AreSaid}
+use Rattle.report_sections.specs.Sections.{Said, sections_of, limits_of, AreSections, AreSaid}
 use Rattle.report_sections.specs.Answers.{said_of, said_of_all}
 use Rattle.report_sections.proofs.Joining.{said_of_all_joins}
 use Rattle.report_buffer.specs.Saying.{Channel, IsSaid, IsBrokenOff}

@@ -43,7 +43,7 @@ pub fn report<R: Threads + Sync, O: Sink, G: Gate + Sync>(
     rt: &R,
     alloc: Global,
     bytes: &[u8],
-    request: &Request,
+    request: &Request<'_>,
     out: &mut O,
     gate: &G,
 ) -> Ending
@@ -69,7 +69,7 @@ fn report_on_source<R: Threads + Sync, O: Sink, G: Gate + Sync>(
     rt: &R,
     alloc: Global,
     source: &Source,
-    request: &Request,
+    request: &Request<'_>,
     out: &mut O,
     gate: &G,
 ) -> Ending
@@ -96,7 +96,7 @@ fn report_on_automaton<R: Threads + Sync, O: Sink, G: Gate + Sync>(
     alloc: Global,
     source: &Source,
     dfa: &MinDfa,
-    request: &Request,
+    request: &Request<'_>,
     out: &mut O,
     gate: &G,
 ) -> Ending
@@ -187,7 +187,7 @@ fn monoid_of<R: Threads + Sync, G: Gate + Sync>(
     rt: &R,
     alloc: Global,
     dfa: &MinDfa,
-    request: &Request,
+    request: &Request<'_>,
     gate: &G,
 ) -> Result<Option<Syntactic>, SynFault>
     requires range { IsInRange request.now }
@@ -213,7 +213,7 @@ fn monoid_of<R: Threads + Sync, G: Gate + Sync>(
 fn classes_of(
     alloc: Global,
     monoid: &Option<Syntactic>,
-    request: &Request,
+    request: &Request<'_>,
 ) -> Result<Option<Green>, Memory>
     ensures { NeedsGreen request.now.command → IfOk result (λ green. IfSome monoid.now (λ m.
         AreClassesOf m.graphs green)) }
@@ -234,7 +234,7 @@ fn table_of<R: Threads + Sync, G: Gate + Sync>(
     rt: &R,
     alloc: Global,
     monoid: &Option<Syntactic>,
-    request: &Request,
+    request: &Request<'_>,
     gate: &G,
 ) -> Result<Option<Table>, Memory>
     requires range { IsInRange request.now }
@@ -256,7 +256,7 @@ fn table_within<R: Threads + Sync, G: Gate + Sync>(
     rt: &R,
     alloc: Global,
     cayley: &Cayley,
-    request: &Request,
+    request: &Request<'_>,
     gate: &G,
 ) -> Result<Option<Table>, Memory>
     requires range { IsInRange request.now }
@@ -274,7 +274,7 @@ fn table_within<R: Threads + Sync, G: Gate + Sync>(
 
 /// Computes the answers of the sections that are asked for, and writes them. Conditions: the values are those of the
 /// source's language, and what the sections need is there.
-fn write_sections<O: Sink>(alloc: Global, values: &Values<'_>, out: &mut O) -> Ending
+fn write_sections<O: Sink>(alloc: Global, values: &Values<'_, '_>, out: &mut O) -> Ending
     requires values { AreValues (values_of values.now) }
     requires needs { All (HasNeeds (values_of values.now))
         (sections_of values.now.request.now.command) }
@@ -303,7 +303,7 @@ fn write_sections<O: Sink>(alloc: Global, values: &Values<'_>, out: &mut O) -> E
 fn print<O: Sink>(
     alloc: Global,
     alphabet: &Alphabet,
-    request: &Request,
+    request: &Request<'_>,
     answers: &[Answer<'_>],
     out: &mut O,
 ) -> Result<(), SayFault>

@@ -27,9 +27,9 @@ use syntactic_monoid::Syntactic;
 
 /// What is computed once for a request and lent to its sections.
 #[derive(Clone, Copy)]
-pub struct Values<'a> {
+pub struct Values<'a, 'w> {
     /// What is asked for, and within which limits.
-    pub request: &'a Request,
+    pub request: &'a Request<'w>,
     /// What the file spells.
     pub source: &'a Source,
     /// The minimal automaton of its language.
@@ -42,7 +42,7 @@ pub struct Values<'a> {
     pub table: &'a Option<Table>,
 }
 
-impl<'a> Values<'a> {
+impl<'a> Values<'a, '_> {
     /// The syntactic monoid. Conditions: the values are those of the source's language, and it is there.
     pub(crate) fn elements(&self) -> &'a Syntactic
         requires values { AreValues (values_of self.now) }
@@ -140,7 +140,7 @@ pub fn have_limit(answers: &[Answer<'_>]) -> bool
 pub fn answer_sections<'a>(
     alloc: Global,
     sections: &[Section],
-    values: &Values<'a>,
+    values: &Values<'a, '_>,
 ) -> Result<Vec<Answer<'a>>, Memory>
     requires values { AreValues (values_of values.now) }
     requires needs { All (HasNeeds (values_of values.now)) sections.now }
@@ -163,7 +163,7 @@ pub fn answer_sections<'a>(
 fn answer_section<'a>(
     alloc: Global,
     section: Section,
-    values: &Values<'a>,
+    values: &Values<'a, '_>,
 ) -> Result<Answer<'a>, Memory>
     requires values { AreValues (values_of values.now) }
     requires needs { HasNeeds (values_of values.now) section }
@@ -192,7 +192,7 @@ fn answer_section<'a>(
 
 /// The answer of the section `monoid`. Conditions: the values are those of the source's language, and the monoid is
 /// there.
-fn answer_monoid<'a>(alloc: Global, values: &Values<'a>) -> Result<Answer<'a>, Memory>
+fn answer_monoid<'a>(alloc: Global, values: &Values<'a, '_>) -> Result<Answer<'a>, Memory>
     requires values { AreValues (values_of values.now) }
     requires needs { HasElements (values_of values.now) }
     ensures sayable { IfOk result (IsSayable (values_of values.now).source.letters) }
@@ -207,7 +207,7 @@ fn answer_monoid<'a>(alloc: Global, values: &Values<'a>) -> Result<Answer<'a>, M
 
 /// The answer of the section `green`. Conditions: the values are those of the source's language, and the monoid and its
 /// classes are there.
-fn answer_green<'a>(alloc: Global, values: &Values<'a>) -> Result<Answer<'a>, Memory>
+fn answer_green<'a>(alloc: Global, values: &Values<'a, '_>) -> Result<Answer<'a>, Memory>
     requires values { AreValues (values_of values.now) }
     requires needs { HasGreen (values_of values.now) }
     ensures sayable { IfOk result (IsSayable (values_of values.now).source.letters) }
@@ -222,7 +222,7 @@ fn answer_green<'a>(alloc: Global, values: &Values<'a>) -> Result<Answer<'a>, Me
 
 /// The answer of the section `table`. Conditions: the values are those of the source's language, and the monoid is
 /// there, with the table of its products where it is within its limit.
-fn answer_table<'a>(values: &Values<'a>) -> Answer<'a>
+fn answer_table<'a>(values: &Values<'a, '_>) -> Answer<'a>
     requires values { AreValues (values_of values.now) }
     requires needs { HasTable (values_of values.now) }
     ensures sayable { IsSayable (values_of values.now).source.letters result }

@@ -18,7 +18,7 @@ use syn_words::Memory;
 
 /// The answer of the section `starfree`. Conditions: the values are those of the source's language, and the monoid is
 /// there, with the table of its products where it is within its limit.
-pub(crate) fn answer_star_free(alloc: Global, values: &Values<'_>) -> Result<SfAnswer, Memory>
+pub(crate) fn answer_star_free(alloc: Global, values: &Values<'_, '_>) -> Result<SfAnswer, Memory>
     requires values { AreValues (values_of values.now) }
     requires needs { HasTable (values_of values.now) }
     ensures { IfOk result (AnswersStarFree (values_of values.now).limits
@@ -31,7 +31,7 @@ pub(crate) fn answer_star_free(alloc: Global, values: &Values<'_>) -> Result<SfA
 
 /// The answer of the section `piecewise`. Conditions: the values are those of the source's language, and the monoid and
 /// its classes are there.
-pub(crate) fn answer_piecewise(alloc: Global, values: &Values<'_>) -> Result<PtAnswer, Memory>
+pub(crate) fn answer_piecewise(alloc: Global, values: &Values<'_, '_>) -> Result<PtAnswer, Memory>
     requires values { AreValues (values_of values.now) }
     requires needs { HasGreen (values_of values.now) }
     ensures { IfOk result (AnswersPiecewise (values_of values.now).limits
@@ -45,7 +45,7 @@ pub(crate) fn answer_piecewise(alloc: Global, values: &Values<'_>) -> Result<PtA
 
 /// The answer of the section `local`. Conditions: the values are those of the source's language, and the monoid is
 /// there, with the table of its products where it is within its limit.
-pub(crate) fn answer_local(alloc: Global, values: &Values<'_>) -> Result<LtAnswer, Memory>
+pub(crate) fn answer_local(alloc: Global, values: &Values<'_, '_>) -> Result<LtAnswer, Memory>
     requires values { AreValues (values_of values.now) }
     requires needs { HasTable (values_of values.now) }
     ensures { IfOk result (AnswersLocal (values_of values.now).limits
@@ -61,7 +61,7 @@ pub(crate) fn answer_local(alloc: Global, values: &Values<'_>) -> Result<LtAnswe
 /// its classes are there.
 pub(crate) fn answer_r_trivial(
     alloc: Global,
-    values: &Values<'_>,
+    values: &Values<'_, '_>,
 ) -> Result<Option<PtWitness>, Memory>
     requires values { AreValues (values_of values.now) }
     requires needs { HasGreen (values_of values.now) }
@@ -77,7 +77,7 @@ pub(crate) fn answer_r_trivial(
 /// is there.
 pub(crate) fn answer_commutative(
     alloc: Global,
-    values: &Values<'_>,
+    values: &Values<'_, '_>,
 ) -> Result<Option<CWitness>, Memory>
     requires values { AreValues (values_of values.now) }
     requires needs { HasElements (values_of values.now) }

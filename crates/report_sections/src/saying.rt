@@ -22,7 +22,7 @@ pub fn say_answers<S: Sink>(
     sink: &mut S,
     buffer: &mut Buffer,
     alphabet: &Alphabet,
-    request: &Request,
+    request: &Request<'_>,
     answers: &[Answer<'_>],
 ) -> Result<(), SayFault>
     requires sayable { All (IsSayable alphabet.now) answers.now }
@@ -44,7 +44,7 @@ fn say_answer<S: Sink>(
     sink: &mut S,
     buffer: &mut Buffer,
     alphabet: &Alphabet,
-    request: &Request,
+    request: &Request<'_>,
     answer: &Answer<'_>,
 ) -> Result<(), SayFault>
     requires sayable { IsSayable alphabet.now answer.now }

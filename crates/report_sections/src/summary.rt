@@ -17,7 +17,7 @@ use syn_words::Memory;
 
 /// The answers of the section `summary`. Conditions: the values are those of the source's language, and the monoid and
 /// its classes are there, with the table of its products where it is within its limit.
-pub(crate) fn answer_summary(alloc: Global, values: &Values<'_>) -> Result<Summary, Memory>
+pub(crate) fn answer_summary(alloc: Global, values: &Values<'_, '_>) -> Result<Summary, Memory>
     requires values { AreValues (values_of values.now) }
     requires elements { HasElements (values_of values.now) }
     requires green { HasGreen (values_of values.now) }
@@ -41,7 +41,7 @@ pub(crate) fn answer_summary(alloc: Global, values: &Values<'_>) -> Result<Summa
 
 /// The counts of the language. Conditions: the values are those of the source's language, and the monoid and its
 /// classes are there.
-pub(crate) fn counts_of(alloc: Global, values: &Values<'_>) -> Result<Counts, Memory>
+pub(crate) fn counts_of(alloc: Global, values: &Values<'_, '_>) -> Result<Counts, Memory>
     requires values { AreValues (values_of values.now) }
     requires green { HasGreen (values_of values.now) }
     ensures { IfOk result (AreCounts (values_of values.now).limits.size

@@ -131,7 +131,7 @@ fn is_generated(command: Command) -> bool
 fn report_on_generated<R: Threads + Sync, O: Sink, G: Gate + Sync>(
     rt: &R,
     alloc: Global,
-    request: &Request,
+    request: &Request<'_>,
     out: &mut O,
     gate: &G,
 ) -> Ending

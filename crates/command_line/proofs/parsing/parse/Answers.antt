@@ -32,13 +32,13 @@ unfolding faults_of
 returns c = record {
   taken = tt;
   found = tt;
-  fault = λ command operand taken.
+  fault = λ none.
       let same : app_of c.in-Ok.command ≡ line_app = c.in-Ok.ensures in
       elim (c.in-Err.ensures.kinds (ap is_simple_and_free same ∙ free)) [
         | inl memory ↦ c.in_default-kind.not-OutOfMemory (c.kind.ensures ∙ memory)
         | inr among ↦
             subst (λ kinds. IsAmong (kind_of c.in-Err.fault) kinds)
             (ap (λ (a : App). fault_of a (map (string_bytes {Z = Global}) c.args.words.now)) same
-            ∙ taken.faultless) among
+            ∙ none) among
       ];
 }

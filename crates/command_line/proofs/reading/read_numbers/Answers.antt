@@ -1,6 +1,6 @@
 use Rattle.std.proofs.Common.{◌<◌, ◌≢◌, length, get_or, arith, refl, subst, ◌∙◌, below_more, length-set, get_or-set_other, get_or-set_same}
 use Rattle.clap.specs.Words.{found_of, rows_of}
-use Rattle.command_line.specs.Tables.{OptionRow}
+use Rattle.command_line.specs.Tables.{NumberOption}
 use Rattle.command_line.specs.Line.{IsNumberIn}
 use Rattle.command_line.proofs.reading.read_numbers.Goals as goal
 
@@ -12,7 +12,7 @@ returns-in-None-clause-number c = (
     within = c.loop-place-test.true;
     before = λ i h. (get_or c.loop-place.numbers i 0, c.loop-place.invariant.1 i h);
     bad = λ n.
-        let P : OptionRow
+        let P : NumberOption
         → Type 0 = λ option. ¬ IsNumberIn (rows_of (found_of c.args.matches.now)) option n in
         subst P c.option_at.ensures.row (c.in-None.ensures.none refl n);
   },
@@ -27,7 +27,7 @@ loop-place-preserved c = (
       (
       let within : c.loop-place.place < length c.loop-place.numbers =
       omega (arith, c.loop-place.invariant.0, c.loop-place-test.true) in
-      let P : OptionRow → Type 0 = λ option. IsNumberIn (rows_of (found_of c.args.matches.now))
+      let P : NumberOption → Type 0 = λ option. IsNumberIn (rows_of (found_of c.args.matches.now))
       option c.in-Some.number in
       rw get_or-set_same (subst P c.option_at.ensures.row c.in-Some.ensures.some)
       ),

@@ -9,6 +9,7 @@ use Rattle.report_outcome.specs.declared.ending.Stop.TheVariants as stop
 use Rattle.report_outcome.proofs.Elements.{monoid_of_source, many_elements, few_elements, from_some, some_there}
 use Rattle.report_sections.proofs.CommandNeeds.{needs_there, green_needs_elements, table_needs_elements}
 use Rattle.report_outcome.proofs.Outcomes.{ends_stopped}
+use Rattle.command_line.proofs.Ranges.{level_within, pairs_within, nodes_within}
 use Rattle.automaton_file.specs.FileText.{source_text}
 use Rattle.report_outcome.proofs.reporting.report_on_automaton.Goals as goal
 
@@ -29,10 +30,10 @@ returns-in-Err-ElementLimit-clause-ends g c = λ bytes spelled.
 
 pub write_sections-requires-clause-values : goal.write_sections-requires-clause-values
 write_sections-requires-clause-values g c = record {
-  some_level = c.requires.range.some_level;
-  level = c.requires.range.level;
-  pairs = c.requires.range.pairs;
-  nodes = c.requires.range.nodes;
+  some_level = (level_within c.args.request.now c.requires.range).0;
+  level = (level_within c.args.request.now c.requires.range).1;
+  pairs = (pairs_within c.args.request.now c.requires.range).1;
+  nodes = (nodes_within c.args.request.now c.requires.range).1;
   minimal = c.requires.minimal;
   syntactic = λ m there.
       monoid_of_source (source_text c.args.source.now) c.args.dfa.now m

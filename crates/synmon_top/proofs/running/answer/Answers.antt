@@ -57,7 +57,7 @@ returns-in-Err-Failed-clause-untouched g c = λ none.
     absurd (none (asks_for_file _ c.in-Ok.request c.in-Ok.ensures.line
     (c.is_generated.ensures.other c.if-is_generated.false)))
 
-pub returns-clause-untouched : goal.returns-clause-untouched
-returns-clause-untouched g c = λ none.
+pub returns-in-Err-Memory-clause-untouched : goal.returns-in-Err-Memory-clause-untouched
+returns-in-Err-Memory-clause-untouched g c = λ none.
     absurd (none (asks_for_file _ c.in-Ok.request c.in-Ok.ensures.line
     (c.is_generated.ensures.other c.if-is_generated.false)))
