@@ -30,16 +30,7 @@ named word = cond (bytes_eq word (codes "monoid")) command.Monoid
 named-word : (c : Command) → named (command_word c) ≡ c
 unfolding named
 named-word command.Automaton = refl
-named-word command.Monoid = refl
-named-word command.Green = refl
-named-word command.StarFree = refl
-named-word command.Piecewise = refl
-named-word command.Local = refl
-named-word command.RTrivial = refl
-named-word command.Commutative = refl
-named-word command.Table = refl
-named-word command.Report = refl
-named-word command.Generate = refl
+named-word other = refl
 
 -- the word of a command is no other's
 one_command : (c d : Command) → command_word c ≡ command_word d → c ≡ d

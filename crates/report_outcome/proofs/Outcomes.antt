@@ -14,12 +14,12 @@ use Rattle.command_line.specs.declared.fault.LineFault.{LineFault}
 use Rattle.command_line.specs.declared.fault.LineFault.TheVariants as line
 use Rattle.command_line.specs.Line.{IsLine, IsAccepted, IsFaultOf}
 use Rattle.command_line.proofs.Lines.{line_without_fault}
-use Rattle.report_sections.specs.Sections.{Said, sections_of, limits_of, AreSections, AreSaid}
+use Rattle.report_sections.specs.Limits.{limits_of}
+use Rattle.report_sections.specs.Sections.{Said, sections_of, AreSections, AreSaid}
 use Rattle.report_sections.specs.Answers.{said_of, said_of_all}
 use Rattle.report_sections.proofs.Joining.{said_of_all_joins}
 use Rattle.report_buffer.specs.Saying.{Channel, IsSaid, IsBrokenOff}
 use Rattle.report_buffer.proofs.Channels.{broken-after}
-use Rattle.report_sections.specs.declared.sections.Section.{Section}
 use Rattle.report_sections.specs.declared.answering.Answer.{Answer}
 use Rattle.report_outcome.specs.Inputs.{Input, generated, named, input_for, input_of, IsFile, IsGiven, IsMissing, AsksForFile}
 use Rattle.report_outcome.specs.Reports.{Task, task_of, HasMoreSubsets, HasMoreElements, IsWithin, IsStop, IsReportOn, IsVerdict, BeginsReport}
@@ -231,13 +231,13 @@ outcome_along held words others accepted file goes ending.NoMemory out (inr (tex
 
 -- the answers to the sections of a request, as the report on the bytes
 pub report_of_answers : (bytes : List ℕ) (request : Request) (source : SourceText)
-    (sections : List Section) (answers : List Answer) → IsSource bytes source
+    (sections : List Command) (answers : List Answer) → IsSource bytes source
     → IsWithin request source → sections ≡ sections_of request.command
     → AreSections sections (limits_of request) source.letters (language_of source)
     (map (said_of source.letters (limits_of request)) answers)
     → IsReportOn bytes (task_of request) (said_of_all source.letters (limits_of request) answers)
 report_of_answers bytes request source sections answers spelled within same are =
-    let P : List Section → Type 0 = λ ss. AreSections ss (limits_of request) source.letters
+    let P : List Command → Type 0 = λ ss. AreSections ss (limits_of request) source.letters
     (language_of source) (map (said_of source.letters (limits_of request)) answers) in
     report_on bytes request source (said_of_all source.letters (limits_of request) answers) spelled
     within (

@@ -8,7 +8,7 @@ use Rattle.report_outcome.specs.declared.ending.Stop.{Stop}
 use Rattle.report_outcome.specs.declared.ending.Stop.TheVariants as stop
 use Rattle.report_outcome.specs.declared.ending.Verdict.{Verdict}
 use Rattle.report_outcome.specs.declared.ending.Verdict.TheVariants as verdict
-use Rattle.report_sections.proofs.OneSection.{one_said}
+use Rattle.report_sections.proofs.SectionLaws.{one_said}
 
 -- a source has one stop
 one_stop : (task : Task) (source : SourceText) (s t : Stop) → IsStop task source s

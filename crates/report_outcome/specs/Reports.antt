@@ -7,7 +7,8 @@ use Rattle.language_theory.specs.Representatives.{HasMoreClasses}
 use Rattle.automaton_file.specs.FileText.{SourceText, IsSource, IsRefusal, IsBodyAutomaton, language_of}
 use Rattle.command_line.specs.declared.commands.Command.{Command}
 use Rattle.command_line.specs.declared.request.Request.{Request}
-use Rattle.report_sections.specs.Sections.{Limits, limits_of, Said, sections_of, AreSaid}
+use Rattle.report_sections.specs.Limits.{Limits, limits_of}
+use Rattle.report_sections.specs.Sections.{Said, sections_of, AreSaid}
 use Rattle.report_outcome.specs.declared.ending.Stop.{Stop}
 use Rattle.report_outcome.specs.declared.ending.Stop.TheVariants as stop
 use Rattle.report_outcome.specs.declared.ending.Verdict.{Verdict}

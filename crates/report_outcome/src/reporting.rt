@@ -10,7 +10,9 @@ ghost use Rattle.syn_outside.specs.Counts.{Rose};
 ghost use Rattle.automaton_file.specs.FileText.{source_text, body_text, language_of, IsBodyAutomaton, IsSource, IsSoundSource, CanBuild};
 ghost use Rattle.command_line.specs.Line.{IsInRange};
 ghost use Rattle.syntactic_monoid.specs.SyntacticMonoid.{IsSyntacticMonoid};
-ghost use Rattle.report_sections.specs.Sections.{limits_of, sections_of, IsTableWithin};
+ghost use Rattle.report_sections.specs.Limits.{limits_of};
+ghost use Rattle.report_sections.specs.RightAnswers.{IsTableWithin};
+ghost use Rattle.report_sections.specs.Sections.{sections_of};
 ghost use Rattle.report_sections.specs.Answers.{AreValues, HasNeeds, AreClassesOf, IsSayable, values_of, said_of_all};
 ghost use Rattle.report_sections.specs.CommandNeeds.{NeedsElements, NeedsGreen, NeedsTable};
 ghost use Rattle.report_outcome.specs.Reports.{HasMoreSubsets, IsWithin};
@@ -285,7 +287,7 @@ fn write_sections<O: Sink>(alloc: Global, values: &Values<'_, '_>, out: &mut O) 
     ensures failed { result ≡ Ending.CannotWrite → Rose (O.faults out.old) (O.faults out.new) }
     ensures count { O.faults out.old ≤ O.faults out.new }
 {
-    let sections = sections_of(values.request.command);
+    let sections = sections_of(&values.request.command);
     let Ok(answers) = answer_sections(alloc, sections, values) else {
         return Ending::NoMemory;
     };

@@ -11,7 +11,7 @@ use Rattle.green_relations.proofs.AgreeingClasses.{greens_agree}
 use Rattle.green_relations.proofs.EggBoxLaws.{egg_boxes}
 use Rattle.green_relations.proofs.OneDiagram.{one_egg_box_list, one_mark_list}
 use Rattle.syntactic_monoid.specs.SyntacticMonoid.{SyntacticMonoid, IsSyntacticMonoid}
-use Rattle.report_sections.specs.Sections.{AreBoxesFor}
+use Rattle.report_sections.specs.RightAnswers.{AreBoxesFor}
 
 module _ (k : ℕ) (L : List ℕ → Type 0) (m : SyntacticMonoid) (is : IsSyntacticMonoid k L m) where
   -- Green's classes in the graphs of the syntactic monoid are those of the syntactic congruence

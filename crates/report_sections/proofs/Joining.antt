@@ -4,14 +4,15 @@ use Rattle.std.specs.Prelude.{◌||◌}
 use Rattle.std.specs.List.{flat_map, list_any}
 use Rattle.std.proofs.lemmas.List.{map-append}
 use Rattle.std.proofs.Math.Seq.{take-suc}
-use Rattle.report_sections.specs.declared.sections.Section.{Section}
+use Rattle.command_line.specs.declared.commands.Command.{Command}
 use Rattle.report_sections.specs.declared.answering.Answer.{Answer}
-use Rattle.report_sections.specs.Sections.{Limits, Said, joined, IsSection, AreSections}
+use Rattle.report_sections.specs.Limits.{Limits}
+use Rattle.report_sections.specs.Sections.{Said, joined, IsSection, AreSections}
 use Rattle.report_sections.specs.Answers.{text_of, is_limit, said_of, said_of_all}
 
 -- one section more, behind the others
-sections-snoc : (limits : Limits) (signs : List ℕ) (L : List ℕ → Type 0) (sections : List Section)
-    (all : List Said) (s : Section) (one : Said)
+sections-snoc : (limits : Limits) (signs : List ℕ) (L : List ℕ → Type 0) (sections : List Command)
+    (all : List Said) (s : Command) (one : Said)
     → AreSections sections limits signs L all → IsSection s limits signs L one
     → AreSections (sections ++ s ∷ []) limits signs L (all ++ one ∷ [])
 sections-snoc limits signs L [] [] s one h k = (k, tt)
@@ -22,12 +23,12 @@ sections-snoc limits signs L (first ∷ rest) (x ∷ more) s one h k =
 
 -- the next section of a list
 pub sections-next : {X : Type 0} (f : X → Said) (limits : Limits) (signs : List ℕ)
-    (L : List ℕ → Type 0) (sections : List Section) (i : ℕ) (d : Section) (answers : List X) (x : X)
+    (L : List ℕ → Type 0) (sections : List Command) (i : ℕ) (d : Command) (answers : List X) (x : X)
     → i < length sections → AreSections (take i sections) limits signs L (map f answers)
     → IsSection (get_or sections i d) limits signs L (f x)
     → AreSections (take (i + 1) sections) limits signs L (map f (answers ++ x ∷ []))
 sections-next f limits signs L sections i d answers x below h k =
-    let P : List Section
+    let P : List Command
     → Type 0 = λ ss. AreSections ss limits signs L (map f (answers ++ x ∷ [])) in
     let Q : List Said → Type 0 = λ all. AreSections (take i sections ++ get_or sections i d ∷ [])
     limits signs L all in

@@ -5,5 +5,6 @@ pub mod Diagrams
 pub mod Rules
 pub mod Recognised
 pub mod Locals
-pub mod OneSection
+pub mod Truths
+pub mod SectionLaws
 pub mod CommandNeeds

@@ -28,7 +28,8 @@ use Rattle.piecewise_testable.proofs.ToldApart.{found_apart}
 use Rattle.answers.specs.declared.powers.SfAnswer.{SfAnswer}
 use Rattle.star_free.specs.Answer.{IsStarFreeAnswer, Tells}
 use Rattle.star_free.proofs.OneList.{answer_in_both, tells_in_both}
-use Rattle.report_sections.specs.Sections.{Limits, IsTableWithin, AnswersStarFree, AnswersPiecewise, AnswersLocal, AnswersRTrivial}
+use Rattle.report_sections.specs.Limits.{Limits}
+use Rattle.report_sections.specs.RightAnswers.{IsTableWithin, AnswersStarFree, AnswersPiecewise, AnswersLocal, AnswersRTrivial}
 use Rattle.report_sections.specs.Answers.{Values, HasGreen, HasTable, AreGreensOf}
 use Rattle.report_sections.proofs.Tables.{table_within}
 

@@ -12,7 +12,7 @@ use Rattle.parallel_table.specs.ProductTables.{ProductTable, cell}
 use Rattle.syntactic_monoid.specs.SyntacticMonoid.{SyntacticMonoid, IsSyntacticMonoid}
 use Rattle.report_buffer.specs.Texts.{texts_below, separated, gap_before}
 use Rattle.report_text.specs.TableSection.{table_text, products_text, section_text}
-use Rattle.report_sections.specs.Sections.{AreProducts, IsTableWithin}
+use Rattle.report_sections.specs.RightAnswers.{AreProducts, IsTableWithin}
 
 -- texts that are the same one by one are the same together
 texts_below_same : (f g : ℕ → List ℕ) (n : ℕ) → ((i : ℕ) → i < n → f i ≡ g i)

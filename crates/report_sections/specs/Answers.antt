@@ -1,5 +1,5 @@
 -- The values that are computed for a request, and what is said of an answer.
-use Rattle.std.specs.Prelude.{◌≡◌, ◌≤◌, ℕ, Bool, true, false, List, length, Option, Some, None, ⊤}
+use Rattle.std.specs.Prelude.{◌≡◌, ◌≤◌, ℕ, Bool, true, false, List, length, Option, Some, None, IsTrue, ⊤}
 use Rattle.std.specs.Bool.{OnTrue}
 use Rattle.std.specs.List.{flat_map, list_any}
 use Rattle.language_theory.specs.Nerode.{MinimalAutomaton, IsMinimal}
@@ -22,9 +22,11 @@ use Rattle.report_text.specs.PiecewiseSection.{IsPiecewiseOver, IsRTrivialOver, 
 use Rattle.report_text.specs.LocalSection.{IsLocalOver, local_text, is_local_limit}
 use Rattle.report_text.specs.CommutativeSection.{IsCommutativeOver, commutative_text}
 use Rattle.report_text.specs.TableSection.{section_text}
-use Rattle.report_sections.specs.Sections.{Limits, limits_of, Said, is_summary_limit, IsTableWithin}
+use Rattle.command_line.specs.declared.commands.Command.{Command}
+use Rattle.report_sections.specs.Limits.{Limits, limits_of}
+use Rattle.report_sections.specs.RightAnswers.{IsTableWithin, is_summary_limit}
+use Rattle.report_sections.specs.Sections.{Said, is_section}
 use Rattle.report_sections.specs.CommandNeeds.{needs_of}
-use Rattle.report_sections.specs.declared.sections.Section.{Section}
 use Rattle.report_sections.specs.declared.answering.Values as code
 use Rattle.report_sections.specs.declared.answering.Answer.{Answer}
 use Rattle.report_sections.specs.declared.answering.Answer.TheVariants as answer
@@ -88,39 +90,93 @@ pub record HasGreen (v : Values) : Type 0 where
   pub there : v.monoid ≡ Some monoid
   pub classes : AreClassesOf monoid.graphs v.green
 
--- what the section needs is there
-abbrev pub HasNeeds : Values → Section → Type 0
-HasNeeds v s = OnTrue (needs_of s).elements (HasElements v)
+-- it is a section, and what it needs is there
+abbrev pub HasNeeds : Values → Command → Type 0
+HasNeeds v s = IsTrue (is_section s) × OnTrue (needs_of s).elements (HasElements v)
     × OnTrue (needs_of s).green (HasGreen v) × OnTrue (needs_of s).table (HasTable v)
+
+-- the monoid is over the letters with these signs, and the rules are its own
+pub record ArePresented (signs : List ℕ) (m : SyntacticMonoid) (rules : List (List ℕ × ℕ)) : Type 0
+  where
+    pub letters : m.graphs.right.letters ≡ length signs
+    pub own : AreRules (length signs) (SameNode m.graphs.right) m.graphs.words rules
+
+-- How an answer is said: its text, of a language over the letters with these signs and within the
+-- limits; whether it is a limit; and when its parts belong together, over those letters.
+pub record Saying : Type 1 where
+  pub text : List ℕ → Limits → List ℕ
+  pub limited : Bool
+  pub Fits : List ℕ → Type 0
+
+-- the table of answers
+abbrev pub saying_of : Answer → Saying
+saying_of (answer.Automaton d) = record {
+  text = λ signs limits. automaton_text signs d.now;
+  limited = false;
+  Fits = λ signs. d.now.graph.letters ≡ length signs;
+}
+saying_of (answer.Monoid m rules) = record {
+  text = λ signs limits. monoid_text signs m.now rules;
+  limited = false;
+  Fits = λ signs. ArePresented signs m.now rules;
+}
+saying_of (answer.Green m g boxes) = record {
+  text = λ signs limits. green_text signs (marked m.now.graphs.words g.now.idempotents) boxes;
+  limited = false;
+  Fits = λ signs. AreBoxesToSay signs m.now.graphs g.now boxes;
+}
+saying_of (answer.StarFree a) = record {
+  text = λ signs limits. star_free_text signs limits.table limits.nodes a;
+  limited = is_star_free_limit a;
+  Fits = λ signs. IsStarFreeOver (length signs) a;
+}
+saying_of (answer.Piecewise a) = record {
+  text = λ signs limits. piecewise_text signs a;
+  limited = is_piecewise_limit a;
+  Fits = λ signs. IsPiecewiseOver (length signs) a;
+}
+saying_of (answer.Local a) = record {
+  text = λ signs limits. local_text signs limits.table a;
+  limited = is_local_limit a;
+  Fits = λ signs. IsLocalOver (length signs) a;
+}
+saying_of (answer.RTrivial a) = record {
+  text = λ signs limits. r_trivial_text signs a;
+  limited = false;
+  Fits = λ signs. IsRTrivialOver (length signs) a;
+}
+saying_of (answer.Commutative a) = record {
+  text = λ signs limits. commutative_text signs a;
+  limited = false;
+  Fits = λ signs. IsCommutativeOver (length signs) a;
+}
+saying_of (answer.Table t) = record {
+  text = λ signs limits. section_text (Some t.now) limits.table;
+  limited = false;
+  Fits = λ signs. ⊤;
+}
+saying_of answer.TableLimit = record {
+  text = λ signs limits. section_text None limits.table;
+  limited = true;
+  Fits = λ signs. ⊤;
+}
+saying_of (answer.Summary counts a) = record {
+  text = λ signs limits. summary_text counts limits.table limits.nodes a;
+  limited = is_summary_limit a;
+  Fits = λ signs. ⊤;
+}
 
 -- the text of an answer, of a language over the letters with these signs
 abbrev pub text_of : List ℕ → Limits → Answer → List ℕ
-text_of signs limits (answer.Automaton d) = automaton_text signs d.now
-text_of signs limits (answer.Monoid m rules) = monoid_text signs m.now rules
-text_of signs limits (answer.Green m g boxes) =
-    green_text signs (marked m.now.graphs.words g.now.idempotents) boxes
-text_of signs limits (answer.StarFree a) = star_free_text signs limits.table limits.nodes a
-text_of signs limits (answer.Piecewise a) = piecewise_text signs a
-text_of signs limits (answer.Local a) = local_text signs limits.table a
-text_of signs limits (answer.RTrivial a) = r_trivial_text signs a
-text_of signs limits (answer.Commutative a) = commutative_text signs a
-text_of signs limits (answer.Table t) = section_text (Some t.now) limits.table
-text_of signs limits answer.TableLimit = section_text None limits.table
-text_of signs limits (answer.Summary counts a) = summary_text counts limits.table limits.nodes a
+text_of signs limits a = (saying_of a).text signs limits
 
 -- whether an answer is a limit
 abbrev pub is_limit : Answer → Bool
-is_limit (answer.Automaton d) = false
-is_limit (answer.Monoid m rules) = false
-is_limit (answer.Green m g boxes) = false
-is_limit (answer.StarFree a) = is_star_free_limit a
-is_limit (answer.Piecewise a) = is_piecewise_limit a
-is_limit (answer.Local a) = is_local_limit a
-is_limit (answer.RTrivial a) = false
-is_limit (answer.Commutative a) = false
-is_limit (answer.Table t) = false
-is_limit answer.TableLimit = true
-is_limit (answer.Summary counts a) = is_summary_limit a
+is_limit a = (saying_of a).limited
+
+-- the parts of an answer belong together, and its letters are those with these signs
+abbrev pub IsSayable : List ℕ → Answer → Type 0
+IsSayable signs a = (saying_of a).Fits signs
 
 -- what the section of an answer says
 abbrev pub said_of : List ℕ → Limits → Answer → Said
@@ -130,23 +186,3 @@ said_of signs limits a = record { text = text_of signs limits a; limited = is_li
 abbrev pub said_of_all : List ℕ → Limits → List Answer → Said
 said_of_all signs limits answers = record
     { text = flat_map (text_of signs limits) answers; limited = list_any is_limit answers }
-
--- the monoid is over the letters with these signs, and the rules are its own
-pub record ArePresented (signs : List ℕ) (m : SyntacticMonoid) (rules : List (List ℕ × ℕ)) : Type 0
-  where
-    pub letters : m.graphs.right.letters ≡ length signs
-    pub own : AreRules (length signs) (SameNode m.graphs.right) m.graphs.words rules
-
--- the parts of an answer belong together, and its letters are those with these signs
-abbrev pub IsSayable : List ℕ → Answer → Type 0
-IsSayable signs (answer.Automaton d) = d.now.graph.letters ≡ length signs
-IsSayable signs (answer.Monoid m rules) = ArePresented signs m.now rules
-IsSayable signs (answer.Green m g boxes) = AreBoxesToSay signs m.now.graphs g.now boxes
-IsSayable signs (answer.StarFree a) = IsStarFreeOver (length signs) a
-IsSayable signs (answer.Piecewise a) = IsPiecewiseOver (length signs) a
-IsSayable signs (answer.Local a) = IsLocalOver (length signs) a
-IsSayable signs (answer.RTrivial a) = IsRTrivialOver (length signs) a
-IsSayable signs (answer.Commutative a) = IsCommutativeOver (length signs) a
-IsSayable signs (answer.Table t) = ⊤
-IsSayable signs answer.TableLimit = ⊤
-IsSayable signs (answer.Summary counts a) = ⊤

@@ -3,19 +3,19 @@ ghost use Rattle.std.specs.Prelude.{◌≡◌, map, option_map, All, IfOk};
 ghost use Rattle.std.specs.List.{list_any};
 ghost use Rattle.language_theory.specs.ShortlexGraph.{SameNode};
 ghost use Rattle.automaton_file.specs.FileText.{language_of};
-ghost use Rattle.report_sections.specs.declared.sections.Section.TheVariants as section;
-ghost use Rattle.report_sections.specs.Sections.{IsSection, AreSections, IsTableWithin};
+ghost use Rattle.command_line.specs.declared.commands.Command.TheVariants as command;
+ghost use Rattle.report_sections.specs.RightAnswers.{IsTableWithin};
+ghost use Rattle.report_sections.specs.Sections.{IsSection, AreSections};
 ghost use Rattle.report_sections.specs.Answers.{AreValues, HasNeeds, HasElements, HasGreen, HasTable, IsMonoidOf, AreGreensOf, IsSayable, is_limit, values_of, said_of};
 
 use crate::questions::{
     answer_commutative, answer_local, answer_piecewise, answer_r_trivial, answer_star_free,
     is_local_limit, is_piecewise_limit, is_star_free_limit,
 };
-use crate::sections::Section;
 use crate::summary::{answer_summary, counts_of, is_summary_limit};
 use answers::{CWitness, LtAnswer, PtAnswer, PtWitness, SfAnswer};
 use automaton_file::Source;
-use command_line::Request;
+use command_line::{Command, Request};
 use green_relations::{Boxes, Green, boxes_of};
 use parallel_table::Table;
 use presentation::{Rules, rules_of};
@@ -113,17 +113,12 @@ impl Answer<'_> {
         ensures { result ≡ is_limit self.now }
     {
         match self {
-            Answer::Automaton(_)
-            | Answer::Monoid(_, _)
-            | Answer::Green(_, _, _)
-            | Answer::RTrivial(_)
-            | Answer::Commutative(_)
-            | Answer::Table(_) => false,
             Answer::StarFree(answer) => is_star_free_limit(answer),
             Answer::Piecewise(answer) => is_piecewise_limit(answer),
             Answer::Local(answer) => is_local_limit(answer),
             Answer::TableLimit => true,
             Answer::Summary(_, answers) => is_summary_limit(answers),
+            _ => false,
         }
     }
 }
@@ -139,7 +134,7 @@ pub fn have_limit(answers: &[Answer<'_>]) -> bool
 /// sections need is there. Fault: want of memory.
 pub fn answer_sections<'a>(
     alloc: Global,
-    sections: &[Section],
+    sections: &[Command],
     values: &Values<'a, '_>,
 ) -> Result<Vec<Answer<'a>>, Memory>
     requires values { AreValues (values_of values.now) }
@@ -158,11 +153,11 @@ pub fn answer_sections<'a>(
     Ok(answers)
 }
 
-/// The answer of a section. Conditions: the values are those of the source's language, and what the section needs is
-/// there.
+/// The answer of a section. Conditions: the values are those of the source's language, it is a section, and what it
+/// needs is there.
 fn answer_section<'a>(
     alloc: Global,
-    section: Section,
+    section: Command,
     values: &Values<'a, '_>,
 ) -> Result<Answer<'a>, Memory>
     requires values { AreValues (values_of values.now) }
@@ -173,20 +168,21 @@ fn answer_section<'a>(
         (said_of (values_of values.now).source.letters (values_of values.now).limits answer)) }
 {
     match section {
-        Section::Automaton => Ok(Answer::Automaton(values.dfa)),
-        Section::Monoid => answer_monoid(alloc, values),
-        Section::Green => answer_green(alloc, values),
-        Section::StarFree => Ok(Answer::StarFree(answer_star_free(alloc, values)?)),
-        Section::Piecewise => Ok(Answer::Piecewise(answer_piecewise(alloc, values)?)),
-        Section::Local => Ok(Answer::Local(answer_local(alloc, values)?)),
-        Section::RTrivial => Ok(Answer::RTrivial(answer_r_trivial(alloc, values)?)),
-        Section::Commutative => Ok(Answer::Commutative(answer_commutative(alloc, values)?)),
-        Section::Table => Ok(answer_table(values)),
-        Section::Summary => {
+        Command::Automaton => Ok(Answer::Automaton(values.dfa)),
+        Command::Monoid => answer_monoid(alloc, values),
+        Command::Green => answer_green(alloc, values),
+        Command::StarFree => Ok(Answer::StarFree(answer_star_free(alloc, values)?)),
+        Command::Piecewise => Ok(Answer::Piecewise(answer_piecewise(alloc, values)?)),
+        Command::Local => Ok(Answer::Local(answer_local(alloc, values)?)),
+        Command::RTrivial => Ok(Answer::RTrivial(answer_r_trivial(alloc, values)?)),
+        Command::Commutative => Ok(Answer::Commutative(answer_commutative(alloc, values)?)),
+        Command::Table => Ok(answer_table(values)),
+        Command::Generate => {
             let counts = counts_of(alloc, values)?;
             let answers = answer_summary(alloc, values)?;
             Ok(Answer::Summary(counts, answers))
         }
+        Command::Report => unreachable!(),
     }
 }
 
@@ -196,7 +192,7 @@ fn answer_monoid<'a>(alloc: Global, values: &Values<'a, '_>) -> Result<Answer<'a
     requires values { AreValues (values_of values.now) }
     requires needs { HasElements (values_of values.now) }
     ensures sayable { IfOk result (IsSayable (values_of values.now).source.letters) }
-    ensures said { IfOk result (λ answer. IsSection section.Monoid (values_of values.now).limits
+    ensures said { IfOk result (λ answer. IsSection command.Monoid (values_of values.now).limits
         (values_of values.now).source.letters (language_of (values_of values.now).source)
         (said_of (values_of values.now).source.letters (values_of values.now).limits answer)) }
 {
@@ -211,7 +207,7 @@ fn answer_green<'a>(alloc: Global, values: &Values<'a, '_>) -> Result<Answer<'a>
     requires values { AreValues (values_of values.now) }
     requires needs { HasGreen (values_of values.now) }
     ensures sayable { IfOk result (IsSayable (values_of values.now).source.letters) }
-    ensures said { IfOk result (λ answer. IsSection section.Green (values_of values.now).limits
+    ensures said { IfOk result (λ answer. IsSection command.Green (values_of values.now).limits
         (values_of values.now).source.letters (language_of (values_of values.now).source)
         (said_of (values_of values.now).source.letters (values_of values.now).limits answer)) }
 {
@@ -226,7 +222,7 @@ fn answer_table<'a>(values: &Values<'a, '_>) -> Answer<'a>
     requires values { AreValues (values_of values.now) }
     requires needs { HasTable (values_of values.now) }
     ensures sayable { IsSayable (values_of values.now).source.letters result }
-    ensures said { IsSection section.Table (values_of values.now).limits
+    ensures said { IsSection command.Table (values_of values.now).limits
         (values_of values.now).source.letters (language_of (values_of values.now).source)
         (said_of (values_of values.now).source.letters (values_of values.now).limits result) }
 {

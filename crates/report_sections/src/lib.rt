@@ -9,4 +9,4 @@ mod summary;
 
 pub use answering::{Answer, Values, answer_sections, have_limit};
 pub use saying::say_answers;
-pub use sections::{Needs, Section, needs_elements, needs_green, needs_table, sections_of};
+pub use sections::{Needs, needs_elements, needs_green, needs_of, needs_table, sections_of};

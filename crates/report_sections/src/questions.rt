@@ -5,7 +5,7 @@ ghost use Rattle.report_text.specs.PiecewiseSection.{is_piecewise_limit};
 ghost use Rattle.report_text.specs.LocalSection.{is_local_limit};
 ghost use Rattle.automaton_file.specs.FileText.{language_of};
 ghost use Rattle.piecewise_testable.specs.Commuting.{IsCommutativeAnswer};
-ghost use Rattle.report_sections.specs.Sections.{AnswersStarFree, AnswersPiecewise, AnswersLocal, AnswersRTrivial};
+ghost use Rattle.report_sections.specs.RightAnswers.{AnswersStarFree, AnswersPiecewise, AnswersLocal, AnswersRTrivial};
 ghost use Rattle.report_sections.specs.Answers.{AreValues, HasElements, HasGreen, HasTable, values_of};
 
 use crate::answering::Values;

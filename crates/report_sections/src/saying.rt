@@ -1,7 +1,7 @@
 //! How the sections of answers are said.
 ghost use Rattle.std.specs.Prelude.{◌≡◌, false, All};
 ghost use Rattle.report_buffer.specs.Saying.{Says, channel};
-ghost use Rattle.report_sections.specs.Sections.{limits_of};
+ghost use Rattle.report_sections.specs.Limits.{limits_of};
 ghost use Rattle.report_sections.specs.Answers.{IsSayable, text_of, said_of_all};
 
 use crate::answering::Answer;

@@ -1,7 +1,7 @@
 //! The parts of the section `summary`: counts of a language, and the answers of which the first lines are said.
 ghost use Rattle.std.specs.Prelude.{◌≡◌, length, IfOk};
 ghost use Rattle.automaton_file.specs.FileText.{language_of};
-ghost use Rattle.report_sections.specs.Sections.{AnswersAll, AreCounts, is_summary_limit};
+ghost use Rattle.report_sections.specs.RightAnswers.{AnswersAll, AreCounts, is_summary_limit};
 ghost use Rattle.report_sections.specs.Answers.{AreValues, HasElements, HasGreen, HasTable, values_of};
 
 use crate::answering::Values;
@@ -44,8 +44,8 @@ pub(crate) fn answer_summary(alloc: Global, values: &Values<'_, '_>) -> Result<S
 pub(crate) fn counts_of(alloc: Global, values: &Values<'_, '_>) -> Result<Counts, Memory>
     requires values { AreValues (values_of values.now) }
     requires green { HasGreen (values_of values.now) }
-    ensures { IfOk result (AreCounts (values_of values.now).limits.size
-        (values_of values.now).source.letters (language_of (values_of values.now).source)) }
+    ensures { IfOk result (AreCounts (values_of values.now).limits
+        (length (values_of values.now).source.letters) (language_of (values_of values.now).source)) }
 {
     let (monoid, green) = values.classes();
     let rules = rules_of(alloc, monoid.cayley())?;

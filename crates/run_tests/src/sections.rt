@@ -1,21 +1,21 @@
 //! The sections of commands, and what these need.
 
 use command_line::Command;
-use report_sections::{Section, needs_elements, needs_green, needs_table, sections_of};
+use report_sections::{needs_elements, needs_green, needs_table, sections_of};
 use std::test::Fail;
 
-/// Commands, the one section of each, and whether it needs the elements, Green's classes and the table.
-const COMMANDS: [(Command, Section, bool, bool, bool); 4] = [
-    (Command::Automaton, Section::Automaton, false, false, false),
-    (Command::Local, Section::Local, true, false, true),
-    (Command::RTrivial, Section::RTrivial, true, true, false),
-    (Command::Generate, Section::Summary, true, true, true),
+/// Commands that print one section, and whether it needs the elements, Green's classes and the table.
+const COMMANDS: [(Command, bool, bool, bool); 4] = [
+    (Command::Automaton, false, false, false),
+    (Command::Local, true, false, true),
+    (Command::RTrivial, true, true, false),
+    (Command::Generate, true, true, true),
 ];
 
 #[test]
 fn commands_have_their_sections_and_needs(rt: HostRuntime) -> Result<(), Fail> {
-    for (command, section, elements, green, table) in COMMANDS {
-        assert_eq!(rt; sections_of(command), [section].as_slice());
+    for (command, elements, green, table) in COMMANDS {
+        assert_eq!(rt; sections_of(&command), [command].as_slice());
         assert_eq!(rt; needs_elements(command), elements);
         assert_eq!(rt; needs_green(command), green);
         assert_eq!(rt; needs_table(command), table);

@@ -111,19 +111,7 @@ fn is_generated(command: Command) -> bool
     ensures generated { IsTrue result → command ≡ Command.Generate }
     ensures other { (result ≡ false) → ¬ (command ≡ Command.Generate) }
 {
-    match command {
-        Command::Generate => true,
-        Command::Automaton
-        | Command::Monoid
-        | Command::Green
-        | Command::StarFree
-        | Command::Piecewise
-        | Command::Local
-        | Command::RTrivial
-        | Command::Commutative
-        | Command::Table
-        | Command::Report => false,
-    }
+    matches!(command, Command::Generate)
 }
 
 /// Writes what a request asks for about the generated file of its size. Conditions: the command is about a generated

@@ -2,7 +2,7 @@ use Rattle.std.proofs.Common.{refl, rules}
 use Rattle.language_theory.specs.Congruence.{Syntactic}
 use Rattle.language_theory.specs.Nerode.{accepted}
 use Rattle.language_theory.specs.Representatives.{HasMoreClasses}
-use Rattle.report_sections.specs.Sections.{limits_of}
+use Rattle.report_sections.specs.Limits.{limits_of}
 use Rattle.report_sections.specs.CommandNeeds.{NeedsElements}
 use Rattle.report_sections.specs.Answers.{Values}
 use Rattle.report_outcome.specs.declared.ending.Stop.TheVariants as stop

@@ -1,7 +1,7 @@
 use Rattle.std.proofs.Common.{◌∙◌, List, sym, ap, subst}
 use Rattle.std.specs.Io.KnownBytes.{Appends}
 use Rattle.automaton_file.specs.FileText.{source_text}
-use Rattle.report_sections.specs.Sections.{limits_of}
+use Rattle.report_sections.specs.Limits.{limits_of}
 use Rattle.report_sections.specs.Answers.{said_of_all}
 use Rattle.report_outcome.specs.Outcome.{IsGivenPrefix}
 use Rattle.report_sections.specs.declared.answering.Answer.{Answer}

@@ -10,13 +10,13 @@ returns-clause-said c =
     let m = c.classes.result.0.now in
     let g = c.classes.result.1.now in
     record {
-      monoid = m;
-      syntactic = c.classes.ensures.monoid;
-      idempotents = g.idempotents;
-      boxes = c.in_ok-boxes.boxes;
-      diagram = boxes_of_monoid (length v.source.letters) (language_of v.source) m
-          c.classes.ensures.monoid g c.in_ok-boxes.boxes c.classes.ensures.green
-          c.in_ok-boxes.ensures.boxes;
+      answer = record { monoid = m; idempotents = g.idempotents; boxes = c.in_ok-boxes.boxes };
+      right = record {
+        syntactic = c.classes.ensures.monoid;
+        diagram = boxes_of_monoid (length v.source.letters) (language_of v.source) m
+            c.classes.ensures.monoid g c.in_ok-boxes.boxes c.classes.ensures.green
+            c.in_ok-boxes.ensures.boxes;
+      };
       text = refl;
-      unlimited = refl;
+      limited = refl;
     }

@@ -16,11 +16,12 @@ returns-clause-said c =
     subst (λ (x : CayleyGraphs). AreRules x.right.letters (SameNode x.right) x.words all)
     c.cayley.ensures.graphs c.in_ok-rules.ensures.rules in
     record {
-      monoid = m;
-      syntactic = c.elements-monoid.ensures;
-      rules = all;
-      presentation = rules_of_monoid (length v.source.letters) (language_of v.source) m all
-          c.elements-monoid.ensures own;
+      answer = record { monoid = m; rules = all };
+      right = record {
+        syntactic = c.elements-monoid.ensures;
+        presentation = rules_of_monoid (length v.source.letters) (language_of v.source) m all
+            c.elements-monoid.ensures own;
+      };
       text = refl;
-      unlimited = refl;
+      limited = refl;
     }

@@ -1,7 +1,7 @@
 use Rattle.std.proofs.Common.{length, Some, refl, rules}
 use Rattle.language_theory.specs.ShortlexGraph.{SameNode}
 use Rattle.automaton_file.specs.FileText.{language_of}
-use Rattle.report_sections.specs.Sections.{IsTableWithin}
+use Rattle.report_sections.specs.RightAnswers.{IsTableWithin}
 use Rattle.report_sections.specs.Answers.{values_of}
 use Rattle.report_sections.proofs.Tables.{table_of_monoid}
 use Rattle.report_sections.proofs.answering.answer_table.Goals as goal

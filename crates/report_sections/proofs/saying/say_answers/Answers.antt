@@ -1,5 +1,5 @@
 use Rattle.report_buffer.proofs.Channels.{up_to-said, up_to-raised}
-use Rattle.report_sections.specs.Sections.{limits_of}
+use Rattle.report_sections.specs.Limits.{limits_of}
 use Rattle.report_sections.specs.Answers.{text_of}
 use Rattle.report_sections.proofs.Joining.{texts-of}
 use Rattle.report_sections.proofs.saying.say_answers.Goals as goal

@@ -1,7 +1,7 @@
 use Rattle.std.proofs.Common.{drop}
 use Rattle.std.specs.List.{flat_map}
 use Rattle.report_buffer.specs.Saying.{channel, IsSaidUpTo}
-use Rattle.report_sections.specs.Sections.{limits_of}
+use Rattle.report_sections.specs.Limits.{limits_of}
 use Rattle.report_sections.specs.Answers.{text_of}
 use Rattle.report_sections.proofs.saying.say_answers.Given as goal
 
