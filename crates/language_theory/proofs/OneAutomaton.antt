@@ -1,4 +1,4 @@
--- Automata with the same states, letters, marks and steps in order are one.
+-- Automata with the same states, letters, marks, steps and empty moves in order are one.
 use Rattle.std.proofs.Common.{◌≡◌, ℕ, ◌<◌, ◌↔◌, Bool, false, IsTrue, List, length, sym, ap, ◌∙◌, arith}
 use Rattle.std.specs.Cmp.{both_ways as both_directions}
 use Rattle.std.proofs.lemmas.List.{same_lists, get_or_default}
@@ -19,10 +19,11 @@ same_row xs ys n P hx hy tx ty =
     ∙ sym (get_or_default ys k d false (omega arith)))
 
 pub same_fields : (m n : Automaton) → m.states ≡ n.states → m.letters ≡ n.letters
-    → m.initial ≡ n.initial → m.finals ≡ n.finals → m.steps ≡ n.steps → m ≡ n
-same_fields m n e f g h i =
+    → m.initial ≡ n.initial → m.finals ≡ n.finals → m.steps ≡ n.steps → m.moves ≡ n.moves → m ≡ n
+same_fields m n e f g h i j =
     ap (λ (x : ℕ). record m { states = x }) e
     ∙ ap (λ (x : ℕ). record m { states = n.states; letters = x }) f
     ∙ ap (λ (x : List Bool). record m { states = n.states; letters = n.letters; initial = x }) g
-    ∙ ap (λ (x : List Bool). record n { finals = x; steps = m.steps }) h
-    ∙ ap (λ (x : List (ℕ × ℕ × ℕ)). record n { steps = x }) i
+    ∙ ap (λ (x : List Bool). record n { finals = x; steps = m.steps; moves = m.moves }) h
+    ∙ ap (λ (x : List (ℕ × ℕ × ℕ)). record n { steps = x; moves = m.moves }) i
+    ∙ ap (λ (x : List (ℕ × ℕ)). record n { moves = x }) j

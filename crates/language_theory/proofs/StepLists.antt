@@ -1,4 +1,4 @@
--- Lists of steps in the order of their states, letters and targets.
+-- Lists of steps and of empty moves, in the order of their states, letters and targets.
 use Rattle.std.proofs.Common.{◌≡◌, ℕ, zero, suc, ◌+◌, ◌<◌, ◌⊎◌, inl, inr, ◌↔◌, Bool, true, false, ◌&&◌, ◌||◌, ◌==◌, IsTrue, List, [], ◌∷◌, ◌++◌, refl, sym, ap, ◌∙◌, arith, append-nil, subst}
 use Rattle.std.specs.Prelude.{All, if◌then◌else◌}
 use Rattle.std.specs.List.{list_any, flat_map, range_with_len}
@@ -8,7 +8,7 @@ use Rattle.std.proofs.lemmas.Bool.{both_ways, and_parts, and_from, or_cases, or_
 use Rattle.std.proofs.lemmas.Grind.{flat_map-append}
 use Rattle.std.proofs.lemmas.List.Elements.{All-nil, All-cons, All-append}
 use Rattle.std.proofs.lemmas.List.Folds.{list_any-append}
-use Rattle.language_theory.specs.Automaton.{Automaton, is_step, has_step, steps_where, IsInOrder}
+use Rattle.language_theory.specs.Automaton.{Automaton, is_step, is_move, has_step, has_move, steps_where, moves_where, IsInOrder}
 
 -- ---- what belongs to the numbers below a bound, in their order
 
@@ -171,18 +171,96 @@ has_where states letters f p a q lp la lq = both_directions (list_any (is_step p
     (λ h. ((listed_where states letters f p a q).0 h).3)
     (λ h. (listed_where states letters f p a q).1 (lp, la, lq, h))
 
--- steps that are listed by a test stand in order
-pub in_order_where : (m : Automaton) (f : ℕ → ℕ → ℕ → Bool)
-    → m.steps ≡ steps_where m.states m.letters f → IsInOrder m
-in_order_where m f e =
-    e ∙ same_where m.states m.letters f (has_step m) (λ p a q lp la lq.
-    sym (ap (list_any (is_step p a q)) e ∙ has_where m.states m.letters f p a q lp la lq))
+-- ---- empty moves
 
--- automata with the same states, letters and steps, which stand in order, list them alike
+one_move : (b : Bool) (p q x z : ℕ) → IsTrue (list_any (is_move x z) (if b then (p, q) ∷ [] else []))
+    ↔ ((p ≡ x) × (q ≡ z) × IsTrue b)
+one_move false p q x z = (
+  λ h. absurd (both_ways false refl h),
+  λ h. absurd (both_ways false refl h.2),
+)
+one_move true p q x z = (
+  λ h. let is = sym (or-false (is_move x z (p, q))) ∙ h in
+      let both = and_parts (p == x) (q == z) is in
+      (eqb-true p x both.0, eqb-true q z both.1, refl),
+  λ h. or-false (is_move x z (p, q)) ∙ and_from (p == x) (q == z) (eq-eqb p x h.0) (eq-eqb q z h.1),
+)
+
+-- the empty moves that pass a test are listed
+pub listed_moves : (states : ℕ) (f : ℕ → ℕ → Bool) (p q : ℕ)
+    → IsTrue (list_any (is_move p q) (moves_where states f))
+    ↔ ((p < states) × (q < states) × IsTrue (f p q))
+unfolding moves_where
+listed_moves states f p q = (
+  λ h. let (x, lx, hx) = (any_below (is_move p q) from_state states).0 h in
+      let (z, lz, hz) = (any_below (is_move p q) (to_state x) states).0 hx in
+      let (ex, ez, t) = (one_move (f x z) x z p q).0 hz in (
+        subst (λ (k : ℕ). k < states) ex lx,
+        subst (λ (k : ℕ). k < states) ez lz,
+        subst (λ (k : ℕ). IsTrue (f k q)) ex (subst (λ (k : ℕ). IsTrue (f x k)) ez t),
+      ),
+  λ h. let (lp, lq, t) = h in
+      (any_below (is_move p q) from_state states).1 (
+        p,
+        lp,
+        (any_below (is_move p q) (to_state p) states).1
+            (q, lq, (one_move (f p q) p q p q).1 (refl, refl, t)),
+      ),
+)
+  where
+    to_state : ℕ → ℕ → List (ℕ × ℕ)
+    to_state p q = if f p q then (p, q) ∷ [] else []
+
+    from_state : ℕ → List (ℕ × ℕ)
+    from_state p = flat_map (to_state p) (range_with_len 0 states)
+
+-- what holds of each empty move that passes holds of all that are listed
+pub all_moves : (P : ℕ × ℕ → Type 0) (states : ℕ) (f : ℕ → ℕ → Bool)
+    → ((p q : ℕ) → p < states → q < states → P (p, q)) → All P (moves_where states f)
+unfolding moves_where
+all_moves P states f h =
+    all_below P _ states (λ p lp. all_below P _ states (λ q lq. one (f p q) p q (h p q lp lq)))
+  where
+    one : (b : Bool) (p q : ℕ) → P (p, q) → All P (if b then (p, q) ∷ [] else [])
+    one true p q k = All-cons P (p, q) [] k (All-nil P)
+    one false p q k = All-nil P
+
+-- tests that agree list the same empty moves
+pub same_moves : (states : ℕ) (f g : ℕ → ℕ → Bool)
+    → ((p q : ℕ) → p < states → q < states → f p q ≡ g p q)
+    → moves_where states f ≡ moves_where states g
+unfolding moves_where
+same_moves states f g h =
+    same_below _ _ states (λ p lp. same_below _ _ states (λ q lq.
+    ap (λ (b : Bool). if b then (p, q) ∷ [] else []) (h p q lp lq)))
+
+-- within the sizes the listed empty moves are those that pass
+pub has_moves : (states : ℕ) (f : ℕ → ℕ → Bool) (p q : ℕ) → p < states → q < states
+    → list_any (is_move p q) (moves_where states f) ≡ f p q
+has_moves states f p q lp lq =
+    both_directions (list_any (is_move p q) (moves_where states f)) (f p q)
+    (λ h. ((listed_moves states f p q).0 h).2)
+    (λ h. (listed_moves states f p q).1 (lp, lq, h))
+
+-- steps and empty moves that are listed by tests stand in order
+pub in_order_where : (m : Automaton) (f : ℕ → ℕ → ℕ → Bool) (g : ℕ → ℕ → Bool)
+    → m.steps ≡ steps_where m.states m.letters f → m.moves ≡ moves_where m.states g → IsInOrder m
+in_order_where m f g e d = record {
+  steps = e ∙ same_where m.states m.letters f (has_step m) (λ p a q lp la lq.
+      sym (ap (list_any (is_step p a q)) e ∙ has_where m.states m.letters f p a q lp la lq));
+  moves = d ∙ same_moves m.states g (has_move m) (λ p q lp lq.
+      sym (ap (list_any (is_move p q)) d ∙ has_moves m.states g p q lp lq));
+}
+
+-- automata with the same states, letters, steps and empty moves, which stand in order, list them
+-- alike
 pub in_order_alike : (m n : Automaton) → IsInOrder m → IsInOrder n → m.states ≡ n.states
     → m.letters ≡ n.letters → ((p a q : ℕ) → has_step m p a q ≡ has_step n p a q)
-    → m.steps ≡ n.steps
-in_order_alike m n h k e i same =
-    h ∙ same_where m.states m.letters (has_step m) (has_step n) (λ p a q lp la lq. same p a q)
-    ∙ ap (λ (s : ℕ). steps_where s m.letters (has_step n)) e
-    ∙ ap (λ (l : ℕ). steps_where n.states l (has_step n)) i ∙ sym k
+    → ((p q : ℕ) → has_move m p q ≡ has_move n p q) → (m.steps ≡ n.steps) × (m.moves ≡ n.moves)
+in_order_alike m n h k e i same also = (
+  h.steps ∙ same_where m.states m.letters (has_step m) (has_step n) (λ p a q lp la lq. same p a q)
+      ∙ ap (λ (s : ℕ). steps_where s m.letters (has_step n)) e
+      ∙ ap (λ (l : ℕ). steps_where n.states l (has_step n)) i ∙ sym k.steps,
+  h.moves ∙ same_moves m.states (has_move m) (has_move n) (λ p q lp lq. also p q)
+      ∙ ap (λ (s : ℕ). moves_where s (has_move n)) e ∙ sym k.moves,
+)
