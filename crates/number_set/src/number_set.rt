@@ -64,6 +64,17 @@ impl NumberSet {
         Ok(set)
     }
 
+    /// The row of marks: for each number below the size whether it is in the set.
+    pub fn to_marks(&self) -> Result<Vec<bool>, Memory>
+        ensures { IfOk result (λ marks. marks.items ≡ self.now) }
+    {
+        let mut marks = Vec::with_capacity(*self.words.allocator(), self.size() as usize)?;
+        for number in 0..self.size() {
+            marks.push(self.contains(number))?;
+        }
+        Ok(marks)
+    }
+
     /// The size: all members are below it.
     pub fn size(&self) -> u32
         ensures { result ≡ length self.now }
