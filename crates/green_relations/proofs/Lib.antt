@@ -13,3 +13,4 @@ pub mod EggBoxLaws
 pub mod OneDiagram
 pub mod AgreeingClasses
 pub mod CellSizes
+pub mod ChainLaws

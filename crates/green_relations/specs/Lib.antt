@@ -4,3 +4,4 @@ pub mod Classes
 pub mod Pairs
 pub mod Numbering
 pub mod Layout
+pub mod Chains

@@ -1,5 +1,5 @@
-//! What the boxes of Green's classes are, and that a monoid determines its classes and boxes.
-ghost use Rattle.std.specs.Prelude.{◌≡◌, ◌<◌, ◌↔◌, ℕ, Bool, IsTrue, List, length};
+//! What the boxes of Green's classes are, and that a monoid determines its classes, its boxes and its longest chain.
+ghost use Rattle.std.specs.Prelude.{◌≡◌, ◌<◌, ◌≤◌, ◌↔◌, ℕ, Bool, IsTrue, List, length};
 ghost use Rattle.language_theory.specs.Words.{Over, word_at};
 ghost use Rattle.language_theory.specs.Automaton.{is_marked};
 ghost use Rattle.language_theory.specs.Congruence.{IsCongruence, Agree};
@@ -7,6 +7,7 @@ ghost use Rattle.language_theory.specs.Representatives.{AreRepresentatives};
 ghost use Rattle.monoid_theory.specs.Green.{IsIdempotent};
 ghost use Rattle.green_relations.specs.GreenClasses.{GreenClasses, AreGreens};
 ghost use Rattle.green_relations.specs.EggBoxes.{AreBoxesOf, AreEggBoxes, box_at, row_at, cell_at};
+ghost use Rattle.green_relations.specs.Chains.{IsChain, IsLongestChain};
 
 use language_theory::language::Relation;
 
@@ -51,4 +52,24 @@ pub fn agreeing_relations_have_the_same_classes<R: Relation, S: Relation>()
     ensures { (k : ℕ) (words : List (List ℕ)) (g : GreenClasses) → Agree k R.same S.same
         → ((i : ℕ) → i < length words → Over k (word_at words i)) → AreGreens k R.same words g
         → AreGreens k S.same words g }
+{}
+
+/// A monoid has one longest chain of ideals.
+pub fn longest_chains_are_one<R: Relation>()
+    ensures { (k : ℕ) (words : List (List ℕ)) (xs ys : List ℕ) → IsLongestChain k R.same words xs
+        → IsLongestChain k R.same words ys → xs ≡ ys }
+{}
+
+/// A chain of ideals has at most as many elements as the monoid.
+pub fn chains_are_short<R: Relation>()
+    ensures { (k : ℕ) (words : List (List ℕ)) (chain : List ℕ) → IsCongruence k R.same
+        → AreRepresentatives k R.same words → IsChain k R.same words chain
+        → length chain ≤ length words }
+{}
+
+/// Relations that agree on words over k letters have the same longest chain of ideals.
+pub fn agreeing_relations_have_the_same_longest_chain<R: Relation, S: Relation>()
+    ensures { (k : ℕ) (words : List (List ℕ)) (chain : List ℕ) → Agree k R.same S.same
+        → ((i : ℕ) → i < length words → Over k (word_at words i))
+        → IsLongestChain k R.same words chain → IsLongestChain k S.same words chain }
 {}
