@@ -7,43 +7,17 @@ use Rattle.std.proofs.lemmas.Grind.{common_steps}
 use Rattle.std.proofs.lemmas.List.{ext_get_or, get_or-replicate, length-replicate, length-set, get_or-set_other, get_or-set_same, get_or_past}
 use Rattle.std.proofs.Math.Nat.{le-mul_of_pos_right}
 use Rattle.std.proofs.lemmas.List.FromFn.{length-map-range_with_len, get_or-map-range_with_len}
-use Rattle.language_theory.specs.Words.{Over, IsSubword, done, keep, skip}
+use Rattle.language_theory.specs.Words.{Over, IsSubword, done}
 use Rattle.language_theory.specs.Automaton.{is_marked}
 use Rattle.language_theory.specs.Congruence.{moved}
 use Rattle.language_theory.proofs.Shortlex.{over_prefix, over_last}
 use Rattle.language_theory.proofs.Congruences.{moved_append}
-use Rattle.language_theory.proofs.Deleting.{subword_trans, subword_append, subword_itself, subword_over}
+use Rattle.language_theory.proofs.Deleting.{subword_over}
 use Rattle.subword_theory.specs.ShortSubwords.{SameSubwords}
 use Rattle.subword_theory.specs.SubwordRows.{width, child, place, parent, IsRowOf, first_row, next_mark, next_row, row_of}
 use Rattle.subword_theory.proofs.SameWords.{same_refl}
-use Rattle.subword_theory.proofs.Pumping.{subword_front}
+use Rattle.subword_theory.proofs.Endings.{EndsIn, ends_in, in_ended}
 use Rattle.subword_theory.proofs.Places.{IsAt, place_last, width_some, by_last_letter, place_within, place_one, parent_of_child, word_at_place}
-
--- ---- the subwords of a word with a letter behind it
-
--- z is a subword of u, or one of u and then the letter a
-abbrev EndsIn : List ℕ → ℕ → List ℕ → Type 0
-EndsIn u a z = IsSubword z u ⊎ ((x : List ℕ) × IsSubword x u × (z ≡ x ++ a ∷ []))
-
-ends_further : {b a : ℕ} {u z : List ℕ} → EndsIn u a z → EndsIn (b ∷ u) a (b ∷ z)
-ends_further (inl h) = inl (keep h)
-ends_further {b} (inr (x, h, e)) = inr (b ∷ x, keep h, ap (λ (w : List ℕ). b ∷ w) e)
-
-ends_later : {b a : ℕ} {u z : List ℕ} → EndsIn u a z → EndsIn (b ∷ u) a z
-ends_later (inl h) = inl (skip h)
-ends_later (inr (x, h, e)) = inr (x, skip h, e)
-
-ends_in : (u : List ℕ) (a : ℕ) (z : List ℕ) → IsSubword z (u ++ a ∷ []) → EndsIn u a z
-ends_in [] a z (keep done) = inr ([], done, refl)
-ends_in [] a z (skip h) = inl h
-ends_in (b ∷ u) a z (keep {u = w} h) = ends_further (ends_in u a w h)
-ends_in (b ∷ u) a z (skip h) = ends_later (ends_in u a z h)
-
-in_ended : (u : List ℕ) (a : ℕ) (z : List ℕ) → EndsIn u a z → IsSubword z (u ++ a ∷ [])
-in_ended u a z (inl h) = subword_trans h (subword_front u (a ∷ []))
-in_ended u a z (inr (x, h, e)) =
-    subst (λ (w : List ℕ). IsSubword w (u ++ a ∷ [])) (sym e)
-    (subword_append h (subword_itself (a ∷ [])))
 
 -- ---- the next row
 

@@ -1,5 +1,5 @@
 use Rattle.subword_theory.proofs.Rows.{row_is, one_row, same_rows, next_row_of}
-use Rattle.subword_theory.proofs.rows_stand_for_short_subwords.Goals as goal
+use Rattle.subword_theory.proofs.laws.rows_stand_for_short_subwords.Goals as goal
 
 pub returns-clause-row : goal.returns-clause-row
 returns-clause-row c k n w o = row_is k n w o

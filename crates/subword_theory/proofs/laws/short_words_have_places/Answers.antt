@@ -1,5 +1,5 @@
 use Rattle.subword_theory.proofs.Places.{word_at_place, place_within, place_one}
-use Rattle.subword_theory.proofs.short_words_have_places.Goals as goal
+use Rattle.subword_theory.proofs.laws.short_words_have_places.Goals as goal
 
 pub returns-clause-numbered : goal.returns-clause-numbered
 returns-clause-numbered c k n p l =
