@@ -1,3 +1,5 @@
 pub mod StepsBack
 pub mod Steps
 pub mod Rows
+pub mod Moves
+pub mod ClosedRows

@@ -10,12 +10,20 @@ use Rattle.std.proofs.lemmas.List.{length-set, length-replicate, get_or-set_othe
 use Rattle.std.proofs.lemmas.List.Elements.{All-set, All-replicate}
 use Rattle.language_theory.proofs.Graphs.{row_place}
 use Rattle.language_theory.proofs.Numbers.{equal_or_not, true_or_not}
-use Rattle.language_theory.specs.Automaton.{Automaton, IsAutomaton, IsInOrder, is_marked, has_step, steps_where}
-use Rattle.language_theory.proofs.StepLists.{listed_where, has_where, same_where, all_where, in_order_where}
+use Rattle.language_theory.specs.Automaton.{Automaton, IsAutomaton, IsInOrder, is_marked, has_step, steps_where, moves_where}
+use Rattle.language_theory.proofs.StepLists.{listed_where, has_where, same_where, all_where, all_moves, in_order_where}
 use Rattle.number_set.specs.Marks.{HasGained}
-use Rattle.automata.specs.Nfa.{most_states, IsSized, IsRow, AreRows, in_rows, of_rows, bare}
+use Rattle.automata.specs.Nfa.{most_states, IsSized, IsRow, AreRows, AreMoves, in_rows, in_moves, of_rows, bare}
 use Rattle.syn_words.specs.Alphabet.{most_letters}
-use Rattle.automata.proofs.Steps.{step_within, leads, with_steps, none_where}
+use Rattle.automata.proofs.Steps.{step_within, leads, with_steps, none_where, no_moves_where}
+
+-- rows without a place have no marks
+pub bare_row : (count i q : ℕ) → is_marked (get_or (replicate count []) i []) q ≡ false
+bare_row count i q = elim (cases_lt i count) [
+  | inl l ↦ ap (λ (row : List Bool). is_marked row q) (get_or-replicate count i [] [] l)
+  | inr g ↦ ap (λ (row : List Bool). is_marked row q)
+      (get_or_past (replicate count []) i [] (omega (arith, length-replicate {A = List Bool} count [])))
+]
 
 pub unmarked_past : (marks : List Bool) (q : ℕ) → length marks ≤ q → is_marked marks q ≡ false
 unmarked_past marks q h = get_or_past marks q false h
@@ -27,9 +35,9 @@ marked_within marks q h = elim (cases_lt q (length marks)) [
 ]
 
 -- an automaton by rows is one
-pub rows_automaton : (k : ℕ) (initial finals : List Bool) (rows : List (List Bool))
-    → length finals ≡ length initial → IsAutomaton (of_rows k initial finals rows)
-rows_automaton k initial finals rows e = record {
+pub rows_automaton : (k : ℕ) (initial finals : List Bool) (rows moves : List (List Bool))
+    → length finals ≡ length initial → IsAutomaton (of_rows k initial finals rows moves)
+rows_automaton k initial finals rows moves e = record {
   initial = refl;
   finals = e;
   from = all_where (λ s. s.0 < length initial) (length initial) k (in_rows k rows)
@@ -37,29 +45,34 @@ rows_automaton k initial finals rows e = record {
   letter = all_where (λ s. s.1 < k) (length initial) k (in_rows k rows) (λ p a q hp ha hq. ha);
   to = all_where (λ s. s.2 < length initial) (length initial) k (in_rows k rows)
       (λ p a q hp ha hq. hq);
+  moves_from = all_moves (λ s. s.0 < length initial) (length initial) (in_moves moves)
+      (λ p q hp hq. hp);
+  moves_to = all_moves (λ s. s.1 < length initial) (length initial) (in_moves moves)
+      (λ p q hp hq. hq);
 }
 
 -- its sizes are those of its rows of marks
-pub rows_sized : (k : ℕ) (initial finals : List Bool) (rows : List (List Bool))
+pub rows_sized : (k : ℕ) (initial finals : List Bool) (rows moves : List (List Bool))
     → length finals ≡ length initial → 1 ≤ length initial → length initial ≤ most_states → 1 ≤ k
-    → k ≤ most_letters → IsSized (of_rows k initial finals rows)
-rows_sized k initial finals rows e some few letter letters = record {
-  automaton = rows_automaton k initial finals rows e;
+    → k ≤ most_letters → IsSized (of_rows k initial finals rows moves)
+rows_sized k initial finals rows moves e some few letter letters = record {
+  automaton = rows_automaton k initial finals rows moves e;
   some_states = some;
   few_states = few;
   some_letters = letter;
   few_letters = letters;
 }
 
--- its steps stand in order
-pub rows_ordered : (k : ℕ) (initial finals : List Bool) (rows : List (List Bool))
-    → IsInOrder (of_rows k initial finals rows)
-rows_ordered k initial finals rows =
-    in_order_where (of_rows k initial finals rows) (in_rows k rows) refl
+-- its steps and empty moves stand in order
+pub rows_ordered : (k : ℕ) (initial finals : List Bool) (rows moves : List (List Bool))
+    → IsInOrder (of_rows k initial finals rows moves)
+rows_ordered k initial finals rows moves =
+    in_order_where (of_rows k initial finals rows moves) (in_rows k rows) (in_moves moves) refl
+    refl
 
 -- rows without a place are those of the automaton without steps
 pub rows_bare : (n k count : ℕ)
-    → of_rows k (replicate n false) (replicate n false) (replicate count []) ≡ bare n k
+    → of_rows k (replicate n false) (replicate n false) (replicate count []) [] ≡ bare n k
 rows_bare n k count =
     ap (λ (m : ℕ). let made : Automaton = record {
       states = m;
@@ -67,30 +80,30 @@ rows_bare n k count =
       initial = replicate n false;
       finals = replicate n false;
       steps = steps_where m k (in_rows k (replicate count []));
+      moves = moves_where m (in_moves []);
     } in made) (length-replicate {A = Bool} n false)
-    ∙ ap (λ (steps : List (ℕ × ℕ × ℕ)). record (bare n k) { steps = steps })
-    (none_where n k (in_rows k (replicate count [])) (λ p a q. no_marks (p * k + a) q))
-  where
-    no_marks : (i q : ℕ) → is_marked (get_or (replicate count []) i []) q ≡ false
-    no_marks i q = elim (cases_lt i count) [
-      | inl l ↦ ap (λ (row : List Bool). is_marked row q) (get_or-replicate count i [] [] l)
-      | inr g ↦ ap (λ (row : List Bool). is_marked row q)
-          (get_or_past (replicate count []) i [] (omega (arith, length-replicate {A = List Bool} count [])))
-    ]
+    ∙ ap (λ (steps : List (ℕ × ℕ × ℕ)). record (bare n k) {
+      steps = steps;
+      moves = moves_where n (in_moves []);
+    })
+    (none_where n k (in_rows k (replicate count [])) (λ p a q. bare_row count (p * k + a) q))
+    ∙ ap (λ (moves : List (ℕ × ℕ)). record (bare n k) { moves = moves })
+    (no_moves_where n (in_moves []) (λ p q. refl))
 
 -- what the rows of an automaton without steps are
-pub record AreBare (n k : ℕ) (initial finals : List Bool) (rows : List (List Bool)) : Type 0 where
-  pub sized : IsSized (of_rows k initial finals rows)
+pub record AreBare (n k : ℕ) (initial finals : List Bool) (rows moves : List (List Bool)) : Type 0 where
+  pub sized : IsSized (of_rows k initial finals rows moves)
   pub are_rows : AreRows (length initial) k rows
-  pub same : of_rows k initial finals rows ≡ bare n k
+  pub are_moves : AreMoves (length initial) moves
+  pub same : of_rows k initial finals rows moves ≡ bare n k
 
-pub rows_made : (n k : ℕ) (initial finals : List Bool) (rows : List (List Bool))
-    → initial ≡ replicate n false → finals ≡ replicate n false → rows ≡ replicate (n * k) []
-    → 1 ≤ n → n ≤ most_states → 1 ≤ k → k ≤ most_letters → AreBare n k initial finals rows
-rows_made n k initial finals rows e f r some few letter letters =
+pub rows_made : (n k : ℕ) (initial finals : List Bool) (rows moves : List (List Bool))
+    → initial ≡ replicate n false → finals ≡ replicate n false → rows ≡ replicate (n * k) [] → moves ≡ []
+    → 1 ≤ n → n ≤ most_states → 1 ≤ k → k ≤ most_letters → AreBare n k initial finals rows moves
+rows_made n k initial finals rows moves e f r g some few letter letters =
     let long : length initial ≡ n = ap (λ (row : List Bool). length row) e
     ∙ length-replicate {A = Bool} n false in record {
-      sized = rows_sized k initial finals rows (ap (λ (row : List Bool). length row) (f ∙ sym e))
+      sized = rows_sized k initial finals rows moves (ap (λ (row : List Bool). length row) (f ∙ sym e))
           (omega (arith, long)) (omega (arith, long)) letter letters;
       are_rows = record {
         long = ap (λ (marks : List (List Bool)). length marks) r
@@ -101,14 +114,15 @@ rows_made n k initial finals rows e f r some few letter letters =
             (All-replicate (λ (marks : List Bool). (length marks ≡ 0) ⊎ (length marks ≡ length initial))
             (n * k) [] (inl refl));
       };
-      same = rw (e, f, r) (rows_bare n k (n * k));
+      are_moves = inl g;
+      same = rw (e, f, r, g) (rows_bare n k (n * k));
     }
 
 -- a row has the marks of the steps from its state by its letter
-pub row_of : (k : ℕ) (initial finals : List Bool) (rows : List (List Bool)) (p a : ℕ)
+pub row_of : (k : ℕ) (initial finals : List Bool) (rows moves : List (List Bool)) (p a : ℕ)
     → AreRows (length initial) k rows → p < length initial → a < k
-    → IsRow (of_rows k initial finals rows) p a (get_or rows (p * k + a) [])
-row_of k initial finals rows p a h hp ha = record { long = short; each = each }
+    → IsRow (of_rows k initial finals rows moves) p a (get_or rows (p * k + a) [])
+row_of k initial finals rows moves p a h hp ha = record { long = short; each = each }
   where
     row : List Bool
     row = get_or rows (p * k + a) []
@@ -121,8 +135,8 @@ row_of k initial finals rows p a h hp ha = record { long = short; each = each }
     short = of_length (h.row (p * k + a) []
         (rw h.long (row_place p a (length initial) k hp ha)))
 
-    each : (q : ℕ) → is_marked row q ≡ has_step (of_rows k initial finals rows) p a q
-    each q = both_directions (is_marked row q) (has_step (of_rows k initial finals rows) p a q)
+    each : (q : ℕ) → is_marked row q ≡ has_step (of_rows k initial finals rows moves) p a q
+    each q = both_directions (is_marked row q) (has_step (of_rows k initial finals rows moves) p a q)
         (λ t. (listed_where (length initial) k (in_rows k rows) p a q).1 (hp, ha, inside t, t))
         (λ t. ((listed_where (length initial) k (in_rows k rows) p a q).0 t).3)
       where
@@ -179,13 +193,13 @@ marks_gained n k rows p a row g h hp ha gained x b y hb =
         ∙ or-false (in_rows k rows x b y))
 
 -- the automaton has the steps of the new marks too
-pub steps_gained : (k : ℕ) (initial finals : List Bool) (rows : List (List Bool)) (p a : ℕ)
+pub steps_gained : (k : ℕ) (initial finals : List Bool) (rows moves : List (List Bool)) (p a : ℕ)
     (row : List Bool) (g : ℕ → Bool) → AreRows (length initial) k rows → p < length initial → a < k
     → HasGained (get_or rows (p * k + a) []) row (length initial) g
-    → of_rows k initial finals (set rows (p * k + a) row)
-    ≡ with_steps (of_rows k initial finals rows) p a g
-steps_gained k initial finals rows p a row g h hp ha gained =
-    ap (λ (steps : List (ℕ × ℕ × ℕ)). record (of_rows k initial finals rows) { steps = steps })
+    → of_rows k initial finals (set rows (p * k + a) row) moves
+    ≡ with_steps (of_rows k initial finals rows moves) p a g
+steps_gained k initial finals rows moves p a row g h hp ha gained =
+    ap (λ (steps : List (ℕ × ℕ × ℕ)). record (of_rows k initial finals rows moves) { steps = steps })
     (same_where (length initial) k (in_rows k (set rows (p * k + a) row)) _
     (λ x b y hx hb hy.
     marks_gained (length initial) k rows p a row g h hp ha gained x b y hb
@@ -195,53 +209,53 @@ steps_gained k initial finals rows p a row g h hp ha gained =
 -- ---- the same of an automaton that is known by its rows
 
 -- a row that is read
-pub row_read : (m : Automaton) (k : ℕ) (initial finals : List Bool) (rows : List (List Bool))
-    (p a : ℕ) (marks : List Bool) → of_rows k initial finals rows ≡ m
+pub row_read : (m : Automaton) (k : ℕ) (initial finals : List Bool) (rows moves : List (List Bool))
+    (p a : ℕ) (marks : List Bool) → of_rows k initial finals rows moves ≡ m
     → AreRows (length initial) k rows → p < m.states → a < m.letters
     → marks ≡ get_or rows (p * m.letters + a) [] → IsRow m p a marks
-row_read m k initial finals rows p a marks e h = subst (λ (n : Automaton). p < n.states
+row_read m k initial finals rows moves p a marks e h = subst (λ (n : Automaton). p < n.states
     → a < n.letters → marks ≡ get_or rows (p * n.letters + a) [] → IsRow n p a marks) e
-    (λ hp ha r. subst (IsRow (of_rows k initial finals rows) p a) (sym r)
-    (row_of k initial finals rows p a h hp ha))
+    (λ hp ha r. subst (IsRow (of_rows k initial finals rows moves) p a) (sym r)
+    (row_of k initial finals rows moves p a h hp ha))
 
 -- the row of a state and a letter has no place or one for each state
-pub row_places : (m : Automaton) (k : ℕ) (initial finals : List Bool) (rows : List (List Bool))
-    (p a : ℕ) (marks : List Bool) → of_rows k initial finals rows ≡ m
+pub row_places : (m : Automaton) (k : ℕ) (initial finals : List Bool) (rows moves : List (List Bool))
+    (p a : ℕ) (marks : List Bool) → of_rows k initial finals rows moves ≡ m
     → AreRows (length initial) k rows → p < m.states → a < m.letters
     → marks ≡ get_or rows (p * m.letters + a) [] → (length marks ≡ 0) ⊎ (length marks ≡ m.states)
-row_places m k initial finals rows p a marks e h = subst (λ (n : Automaton). p < n.states
+row_places m k initial finals rows moves p a marks e h = subst (λ (n : Automaton). p < n.states
     → a < n.letters → marks ≡ get_or rows (p * n.letters + a) []
     → (length marks ≡ 0) ⊎ (length marks ≡ n.states)) e
     (λ hp ha r. subst (λ (row : List Bool). (length row ≡ 0) ⊎ (length row ≡ length initial)) (sym r)
     (h.row (p * k + a) [] (rw h.long (row_place p a (length initial) k hp ha))))
 
 -- the row of a state and a letter is there
-pub row_within : (m : Automaton) (k : ℕ) (initial finals : List Bool) (rows : List (List Bool))
-    (p a : ℕ) → of_rows k initial finals rows ≡ m → AreRows (length initial) k rows
+pub row_within : (m : Automaton) (k : ℕ) (initial finals : List Bool) (rows moves : List (List Bool))
+    (p a : ℕ) → of_rows k initial finals rows moves ≡ m → AreRows (length initial) k rows
     → p < m.states → a < m.letters → p * m.letters + a < length rows
-row_within m k initial finals rows p a e h = subst (λ (n : Automaton). p < n.states
+row_within m k initial finals rows moves p a e h = subst (λ (n : Automaton). p < n.states
     → a < n.letters → p * n.letters + a < length rows) e
     (λ hp ha. rw h.long (row_place p a (length initial) k hp ha))
 
 -- the steps after a row has gained marks
-pub record HasSteps (m : Automaton) (k : ℕ) (initial finals : List Bool) (rows : List (List Bool))
+pub record HasSteps (m : Automaton) (k : ℕ) (initial finals : List Bool) (rows moves : List (List Bool))
     (p a : ℕ) (g : ℕ → Bool) : Type 0 where
   pub are_rows : AreRows (length initial) k rows
-  pub same : of_rows k initial finals rows ≡ with_steps m p a g
+  pub same : of_rows k initial finals rows moves ≡ with_steps m p a g
 
-pub row_changed : (m : Automaton) (k : ℕ) (initial finals : List Bool) (rows : List (List Bool))
-    (p a : ℕ) (old new : List Bool) (g : ℕ → Bool) → of_rows k initial finals rows ≡ m
+pub row_changed : (m : Automaton) (k : ℕ) (initial finals : List Bool) (rows moves : List (List Bool))
+    (p a : ℕ) (old new : List Bool) (g : ℕ → Bool) → of_rows k initial finals rows moves ≡ m
     → AreRows (length initial) k rows → p < m.states → a < m.letters
     → old ≡ get_or rows (p * m.letters + a) [] → HasGained old new m.states g
-    → HasSteps m k initial finals (set rows (p * m.letters + a) new) p a g
-row_changed m k initial finals rows p a old new g e h = subst (λ (n : Automaton). p < n.states
+    → HasSteps m k initial finals (set rows (p * m.letters + a) new) moves p a g
+row_changed m k initial finals rows moves p a old new g e h = subst (λ (n : Automaton). p < n.states
     → a < n.letters → old ≡ get_or rows (p * n.letters + a) [] → HasGained old new n.states g
-    → HasSteps n k initial finals (set rows (p * n.letters + a) new) p a g) e
+    → HasSteps n k initial finals (set rows (p * n.letters + a) new) moves p a g) e
     (λ hp ha r gained.
     let at : HasGained (get_or rows (p * k + a) []) new (length initial) g =
     subst (λ (row : List Bool). HasGained row new (length initial) g) r gained in record {
       are_rows = rows_gained (length initial) k rows p a new g h hp ha at;
-      same = steps_gained k initial finals rows p a new g h hp ha at;
+      same = steps_gained k initial finals rows moves p a new g h hp ha at;
     })
 
 -- outside of the sizes there is no step
@@ -263,8 +277,10 @@ no_step m p a q good out = elim (true_or_not (has_step m p a q)) [
     not_true false n = refl
 
 -- an automaton with other rows is as large
-pub changed_sized : (k : ℕ) (initial finals : List Bool) (rows others : List (List Bool))
-    → IsSized (of_rows k initial finals rows) → IsSized (of_rows k initial finals others)
-changed_sized k initial finals rows others h =
-    rows_sized k initial finals others h.automaton.finals h.some_states h.few_states h.some_letters
-    h.few_letters
+pub changed_sized : (k : ℕ) (initial finals : List Bool)
+    (rows moves other_rows other_moves : List (List Bool))
+    → IsSized (of_rows k initial finals rows moves)
+    → IsSized (of_rows k initial finals other_rows other_moves)
+changed_sized k initial finals rows moves other_rows other_moves h =
+    rows_sized k initial finals other_rows other_moves h.automaton.finals h.some_states h.few_states
+    h.some_letters h.few_letters

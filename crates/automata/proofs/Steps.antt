@@ -1,13 +1,13 @@
--- What new steps change, where the steps stand in their order.
+-- What new steps and empty moves change, where they stand in their order.
 use Rattle.std.proofs.Common.{◌≡◌, ℕ, zero, suc, ◌<◌, ◌⊎◌, inl, inr, Bool, true, false, ◌&&◌, ◌||◌, ◌==◌, IsTrue, List, [], ◌∷◌, refl, sym, ap, subst, ◌∙◌}
 use Rattle.std.specs.Cmp.{both_ways as both_directions}
 use Rattle.std.specs.Prelude.{if◌then◌else◌}
 use Rattle.std.specs.List.{flat_map, range_with_len}
 use Rattle.std.proofs.lemmas.Bool.{and_parts, or_cases, eqb-true}
 use Rattle.std.proofs.lemmas.List.Folds.{Any-from_list_any}
-use Rattle.language_theory.specs.Automaton.{Automaton, IsAutomaton, is_step, has_step, steps_where, IsInOrder}
-use Rattle.language_theory.proofs.StepLists.{with_one_more, listed_where, all_where, in_order_where}
-use Rattle.automata.specs.Nfa.{with_step, bare}
+use Rattle.language_theory.specs.Automaton.{Automaton, IsAutomaton, is_step, is_move, has_step, has_move, steps_where, moves_where, IsInOrder}
+use Rattle.language_theory.proofs.StepLists.{with_one_more, listed_where, listed_moves, all_where, in_order_where}
+use Rattle.automata.specs.Nfa.{with_step, with_move, bare}
 
 -- the states and the letter of a step are in range
 pub step_within : (m : Automaton) (p a q : ℕ) → IsAutomaton m → IsTrue (has_step m p a q)
@@ -69,6 +69,8 @@ with_steps_automaton m f good = record {
   from = all_where (λ s. s.0 < m.states) m.states m.letters f (λ p a q hp ha hq. hp);
   letter = all_where (λ s. s.1 < m.letters) m.states m.letters f (λ p a q hp ha hq. ha);
   to = all_where (λ s. s.2 < m.states) m.states m.letters f (λ p a q hp ha hq. hq);
+  moves_from = good.moves_from;
+  moves_to = good.moves_to;
 }
 
 -- the automaton has the steps that it had, and the new one
@@ -84,11 +86,45 @@ pub with_step_automaton : (m : Automaton) (p a q : ℕ) → IsAutomaton m
 with_step_automaton m p a q good =
     with_steps_automaton m (λ x b y. has_step m x b y || is_step x b y (p, a, q)) good
 
-pub with_step_ordered : (m : Automaton) (p a q : ℕ) → IsInOrder (with_step m p a q)
-with_step_ordered m p a q =
-    in_order_where (with_step m p a q) (λ x b y. has_step m x b y || is_step x b y (p, a, q)) refl
+pub with_step_ordered : (m : Automaton) (p a q : ℕ) → IsInOrder m → IsInOrder (with_step m p a q)
+with_step_ordered m p a q h =
+    in_order_where (with_step m p a q) (λ x b y. has_step m x b y || is_step x b y (p, a, q))
+    (has_move m) refl h.moves
 
--- ---- no steps
+-- ---- empty moves
+
+-- the states of an empty move are in range
+pub move_within : (m : Automaton) (p q : ℕ) → IsAutomaton m → IsTrue (has_move m p q)
+    → (p < m.states) × (q < m.states)
+move_within m p q good h =
+    let (i, s, within, at, move) = Any-from_list_any (is_move p q) m.moves h in
+    let both = and_parts (s.0 == p) (s.1 == q) move in (
+      subst (λ (x : ℕ). x < m.states) (ap (λ (t : ℕ × ℕ). t.0) at ∙ eqb-true s.0 p both.0)
+          (good.moves_from i s within),
+      subst (λ (x : ℕ). x < m.states) (ap (λ (t : ℕ × ℕ). t.1) at ∙ eqb-true s.1 q both.1)
+          (good.moves_to i s within),
+    )
+
+-- the automaton has the empty moves that it had, and the new one
+pub adding_a_move : (m : Automaton) (p q x y : ℕ) → IsAutomaton m → p < m.states → q < m.states
+    → has_move (with_move m p q) x y ≡ (has_move m x y || is_move x y (p, q))
+adding_a_move m p q x y good hp hq = both_directions (has_move (with_move m p q) x y) (both x y)
+    (λ h. ((listed_moves m.states both x y).0 h).2)
+    (λ h. (listed_moves m.states both x y).1
+    (let (hx, hy) = within (or_cases (has_move m x y) (is_move x y (p, q)) h) in (hx, hy, h)))
+  where
+    both : ℕ → ℕ → Bool
+    both x y = has_move m x y || is_move x y (p, q)
+
+    within : (has_move m x y ≡ true) ⊎ (is_move x y (p, q) ≡ true) → (x < m.states) × (y < m.states)
+    within (inl h) = move_within m x y good h
+    within (inr h) =
+        let parts = and_parts (p == x) (q == y) h in (
+          subst (λ (n : ℕ). n < m.states) (eqb-true p x parts.0) hp,
+          subst (λ (n : ℕ). n < m.states) (eqb-true q y parts.1) hq,
+        )
+
+-- ---- no steps and no empty moves
 
 none_below : {X : Type 0} (f : ℕ → List X) (n : ℕ) → ((i : ℕ) → f i ≡ [])
     → flat_map f (range_with_len 0 n) ≡ []
@@ -103,5 +139,16 @@ none_where states letters f none =
     none_below _ states (λ p. none_below _ letters (λ a. none_below _ states (λ q.
     ap (λ (b : Bool). if b then (p, a, q) ∷ [] else []) (none p a q))))
 
+-- no empty move is listed where none passes
+pub no_moves_where : (states : ℕ) (f : ℕ → ℕ → Bool) → ((p q : ℕ) → f p q ≡ false)
+    → moves_where states f ≡ []
+unfolding moves_where
+no_moves_where states f none =
+    none_below _ states (λ p. none_below _ states (λ q.
+    ap (λ (b : Bool). if b then (p, q) ∷ [] else []) (none p q)))
+
 pub bare_ordered : (states letters : ℕ) → IsInOrder (bare states letters)
-bare_ordered states letters = sym (none_where states letters _ (λ p a q. refl))
+bare_ordered states letters = record {
+  steps = sym (none_where states letters _ (λ p a q. refl));
+  moves = sym (no_moves_where states _ (λ p q. refl));
+}

@@ -4,6 +4,8 @@ use Rattle.std.proofs.lemmas.Bool.{both_ways}
 use Rattle.std.proofs.lemmas.List.{length-replicate, get_or-replicate, length-set, get_or-set_other}
 use Rattle.std.proofs.lemmas.Grind.{common_steps, get_or-set_at}
 use Rattle.language_theory.proofs.Numbers.{equal_or_not}
+use Rattle.language_theory.proofs.Congruences.{other_direction}
+use Rattle.language_theory.proofs.Automata.{accepts_none, accepts_letter}
 use Rattle.language_theory.specs.Automaton.{Automaton, IsAutomaton, IsTarget, is_marked, has_step}
 use Rattle.number_set.specs.Marks.{Meet}
 use Rattle.automata.specs.Nfa.{IsRow}
@@ -12,20 +14,22 @@ use Rattle.automata.specs.StepsBack.{AreAccepting, AreBefore}
 
 -- a letter is put before a word
 pub accepting_before : (m : Automaton) (w : List ℕ) (a : ℕ) (marks before : List Bool)
-    → AreAccepting m w marks → AreBefore m a marks before → AreAccepting m (a ∷ w) before
-accepting_before m w a marks before h b = record {
+    → m.moves ≡ [] → AreAccepting m w marks → AreBefore m a marks before
+    → AreAccepting m (a ∷ w) before
+accepting_before m w a marks before none h b = record {
   long = b.long;
   each = λ p hp. (
     λ t. let (q, target, marked) = (b.each p hp).0 t in
-        (q, target, (h.each q target.0).0 marked),
-    λ x. let (q, target, accepted) = x in
+        (accepts_letter m none p a w).1 (q, target, (h.each q target.0).0 marked),
+    λ x. let (q, target, accepted) = (accepts_letter m none p a w).0 x in
         (b.each p hp).1 (q, target, (h.each q target.0).1 accepted),
   );
 }
 
 -- the final states are those from which the empty word is accepted
-pub accepting_finals : (m : Automaton) → IsAutomaton m → AreAccepting m [] m.finals
-accepting_finals m good = record { long = good.finals; each = λ p hp. (λ h. h, λ h. h) }
+pub accepting_finals : (m : Automaton) → m.moves ≡ [] → IsAutomaton m → AreAccepting m [] m.finals
+accepting_finals m none good =
+    record { long = good.finals; each = λ p hp. other_direction (accepts_none m none p) }
 
 pub accepting_next : (m : Automaton) (word : List ℕ) (place : ℕ) (marks : List Bool) → 0 < place
     → place ≤ length word → AreAccepting m (get_or word (place - 1) 0 ∷ drop place word) marks

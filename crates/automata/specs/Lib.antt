@@ -1,2 +1,3 @@
 pub mod StepsBack
 pub mod Nfa
+pub mod Closures

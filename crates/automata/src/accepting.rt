@@ -1,5 +1,5 @@
 //! The states from which an automaton accepts a word, from the word's last letter to its first.
-ghost use Rattle.std.specs.Prelude.{◌≡◌, ◌<◌, ◌↔◌, ℕ, length, IsTrue, IfOk};
+ghost use Rattle.std.specs.Prelude.{◌≡◌, ◌<◌, ◌↔◌, ℕ, [], length, IsTrue, IfOk};
 ghost use Rattle.language_theory.specs.Automaton.{Accepts, IsInitial, IsTarget, is_marked};
 ghost use Rattle.automata.specs.StepsBack.{AreAccepting, AreBefore};
 
@@ -8,14 +8,28 @@ use number_set::NumberSet;
 use syn_words::{Memory, Word};
 
 impl Nfa {
-    /// Whether the automaton accepts a word: a path from an initial to a final state has the letters of the word. It
-    /// takes time linear in the states and the rows of marks of each letter of the word.
+    /// Whether the automaton accepts a word: a path with the word leads from an initial to a final state. It takes time
+    /// linear in the states and the rows of marks of each letter of the word. Empty moves are taken in first.
     pub fn accepts(&self, word: &Word) -> Result<bool, Memory>
         ensures { IfOk result (λ b. IsTrue b ↔ Accepts self.now word.now) }
     {
-        let marks = accepting(self, word.letters())?;
-        Ok(has_initial(self, &marks))
+        if self.has_moves() {
+            let plain = self.without_moves(self.allocator())?;
+            let accepted = accepts_by_steps(&plain, word)?;
+            return Ok(accepted);
+        }
+        let accepted = accepts_by_steps(self, word)?;
+        Ok(accepted)
     }
+}
+
+/// Whether an automaton accepts a word. Condition: it has no empty moves.
+fn accepts_by_steps(nfa: &Nfa, word: &Word) -> Result<bool, Memory>
+    requires { nfa.now.moves ≡ [] }
+    ensures { IfOk result (λ b. IsTrue b ↔ Accepts nfa.now word.now) }
+{
+    let marks = accepting(nfa, word.letters())?;
+    Ok(has_initial(nfa, &marks))
 }
 
 /// Whether an initial state is marked.
@@ -31,8 +45,9 @@ fn has_initial(nfa: &Nfa, marks: &NumberSet) -> bool
     false
 }
 
-/// The states from which a path with the letters of the word ends in a final state.
+/// The states from which a path with the word ends in a final state. Condition: there are no empty moves.
 fn accepting(nfa: &Nfa, word: &[u8]) -> Result<NumberSet, Memory>
+    requires { nfa.now.moves ≡ [] }
     ensures { IfOk result (λ marks. AreAccepting nfa.now word.now marks) }
 {
     // Its contract tells that the automaton is within the limits.

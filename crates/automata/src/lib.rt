@@ -1,7 +1,9 @@
-//! Automata with any number of initial states, and of steps from one state by one letter, as values of the program.
+//! Automata with any number of initial states, of steps from one state by one letter, and of empty moves, as values of
+//! the program.
 #![tactic(auto)]
 
 mod accepting;
+mod closures;
 mod laws;
 mod nfa;
 

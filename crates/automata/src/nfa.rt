@@ -1,10 +1,12 @@
-//! Automata with any number of initial states, and of steps from one state by one letter.
-ghost use Rattle.std.specs.Prelude.{◌≡◌, ◌+◌, ◌*◌, ◌<◌, ◌≤◌, ◌&&◌, ◌||◌, ◌==◌, ◌⊎◌, ℕ, [], length, replicate, IfOk, OnOk, OnErr};
-ghost use Rattle.language_theory.specs.Automaton.{Automaton, IsAutomaton, IsInOrder, has_step, is_step, is_initial, is_final, is_marked};
+//! Automata with any number of initial states, of steps from one state by one letter, and of empty moves.
+ghost use Rattle.std.specs.Prelude.{◌≡◌, ◌≢◌, ◌+◌, ◌*◌, ◌<◌, ◌≤◌, ◌&&◌, ◌||◌, ◌==◌, ◌⊎◌, ℕ, false, [], length, replicate, IfOk, IsTrue, OnOk, OnErr};
+ghost use Rattle.language_theory.specs.Automaton.{Automaton, IsAutomaton, IsInOrder, HasMovesTakenIn, has_step, has_move, is_step, is_move, is_initial, is_final, is_marked};
 ghost use Rattle.number_set.specs.Marks.{HasGained};
-ghost use Rattle.automata.specs.Nfa.{most_states, IsSized, IsRow, bare, with_initial, with_final, with_step, with_row};
+ghost use Rattle.automata.specs.Closures.{AreTakenIn};
+ghost use Rattle.automata.specs.Nfa.{most_states, IsSized, IsRow, AreMoves, AreNear, HasMove, bare, with_initial, with_final, with_step, with_row, with_move};
 ghost use Rattle.syn_words.specs.Alphabet.{most_letters};
 
+use crate::closures::{closed, closed_rows, closures};
 use number_set::NumberSet;
 use std::alloc::Global;
 use std::marker::Model;
@@ -13,7 +15,8 @@ use syn_words::Memory;
 /// An automaton with 1 to 4,001 states and 1 to 60 letters. States and letters are numbers, counted from 0.
 ///
 /// For each state and letter that have steps it keeps a row of marks, 64 to a word, so that all targets of a state by a
-/// letter are at hand as a set. A contract sees the steps in the order of their states, letters and targets.
+/// letter are at hand as a set; and so it keeps the empty moves of each state. A contract sees the steps in the order of
+/// their states, letters and targets, and the empty moves in the order of their states and targets.
 #[derive(Drop)]
 pub struct Nfa {
     letters: u32,
@@ -22,23 +25,30 @@ pub struct Nfa {
     /// A set for each state and letter, first those of state 0: below 0 where there is no step yet, else below the
     /// number of states.
     rows: Vec<NumberSet>,
+    /// No set where there is no empty move. Else a set for each state: below 0 where no empty move leads from it, else
+    /// below the number of states.
+    moves: Vec<NumberSet>,
 }
 
 impl Model for Nfa {
     ghost use Rattle.std.specs.Prelude.{◌≡◌, length};
     ghost use Rattle.language_theory.specs.Automaton.{Automaton};
-    ghost use Rattle.automata.specs.Nfa.{IsSized, AreRows, of_rows};
+    ghost use Rattle.automata.specs.Nfa.{IsSized, AreRows, AreMoves, of_rows};
 
     ghost Value = { Automaton };
 
-    ghost view = { λ n. of_rows n.letters n.initial.items n.finals.items n.rows.items };
+    ghost view = { λ n.
+        of_rows n.letters n.initial.items n.finals.items n.rows.items n.moves.items };
 
-    ghost invariant = { λ n. IsSized (of_rows n.letters n.initial.items n.finals.items n.rows.items)
-        × AreRows (length n.initial.items) n.letters n.rows.items };
+    ghost invariant = { λ n.
+        IsSized (of_rows n.letters n.initial.items n.finals.items n.rows.items n.moves.items)
+        × AreRows (length n.initial.items) n.letters n.rows.items
+        × AreMoves (length n.initial.items) n.moves.items };
 }
 
 impl Nfa {
-    /// An automaton with no initial states, final states or steps. Condition: 1 to 4,001 states and 1 to 60 letters.
+    /// An automaton with no initial states, final states, steps or empty moves. Condition: 1 to 4,001 states and 1 to 60
+    /// letters.
     pub fn new(alloc: Global, states: u32, letters: u32) -> Result<Nfa, Memory>
         requires some_states { 1 ≤ states }
         requires few_states { states ≤ most_states }
@@ -49,12 +59,14 @@ impl Nfa {
     {
         let initial = vec![in alloc; false; states as usize]?;
         let finals = vec![in alloc; false; states as usize]?;
+        let moves = Vec::new(alloc);
         let rows = no_rows(alloc, states as usize * letters as usize)?;
         Ok(Nfa {
             letters,
             initial,
             finals,
             rows,
+            moves,
         })
     }
 
@@ -69,10 +81,11 @@ impl Nfa {
             initial: Vec::from_slice(alloc, self.initial.as_slice())?,
             finals: Vec::from_slice(alloc, self.finals.as_slice())?,
             rows: copy_rows(alloc, self.rows.as_slice())?,
+            moves: copy_rows(alloc, self.moves.as_slice())?,
         })
     }
 
-    /// The number of states. The steps stand in order.
+    /// The number of states. The steps and the empty moves stand in order.
     pub fn states(&self) -> u32
         ensures states { result ≡ self.now.states }
         ensures sized { IsSized self.now }
@@ -159,6 +172,89 @@ impl Nfa {
         to < row.size() && row.contains(to)
     }
 
+    /// Adds an empty move. One that is there already changes nothing. After `Memory` the automaton is as it was.
+    /// Condition: both states are in range.
+    pub fn add_empty(&mut self, from: u32, to: u32) -> Result<(), Memory>
+        requires from { from < self.old.states }
+        requires to { to < self.old.states }
+        ensures ok { OnOk result (self.new ≡ with_move self.old from to) }
+        ensures moves { OnOk result ((p q : ℕ) → has_move self.new p q
+            ≡ (has_move self.old p q || is_move p q (from, to))) }
+        ensures err { OnErr result (self.new ≡ self.old) }
+    {
+        let alloc = self.allocator();
+        let states = self.states();
+        add_move(&mut self.moves, alloc, states, from, to)?;
+        Ok(())
+    }
+
+    /// Whether the automaton has an empty move. Condition: both states are in range.
+    pub fn has_empty(&self, from: u32, to: u32) -> bool
+        requires from { from < self.now.states }
+        requires to { to < self.now.states }
+        ensures { result ≡ has_move self.now from to }
+    {
+        if self.moves.is_empty() {
+            return false;
+        }
+        let row = &self.moves[from as usize];
+        if to >= row.size() {
+            return false;
+        }
+        row.contains(to)
+    }
+
+    /// Whether there is any empty move.
+    pub fn has_moves(&self) -> bool
+        ensures some { IsTrue result → self.now.moves ≢ [] }
+        ensures none { result ≡ false → self.now.moves ≡ [] }
+    {
+        !self.moves.is_empty()
+    }
+
+    /// The automaton with its empty moves taken in: it has none, and each word leads to the same states in it.
+    pub fn without_moves(&self, alloc: Global) -> Result<Nfa, Memory>
+        ensures { IfOk result (λ n. HasMovesTakenIn self.now n) }
+    {
+        let (initial, rows) = self.taken_in(alloc)?;
+        let finals = Vec::from_slice(alloc, self.finals.as_slice())?;
+        let moves = Vec::new(alloc);
+        Ok(Nfa {
+            letters: self.letters,
+            initial,
+            finals,
+            rows,
+            moves,
+        })
+    }
+
+    /// The initial states and the rows of steps with empty moves behind them.
+    fn taken_in(&self, alloc: Global) -> Result<(Vec<bool>, Vec<NumberSet>), Memory>
+        ensures { IfOk result (λ made. AreTakenIn self.now made.0.items made.1.items) }
+    {
+        // Its contract tells that the automaton is within the limits.
+        let _states = self.states();
+        let closures = closures(alloc, self)?;
+        let begin = NumberSet::from_marks(alloc, self.initials())?;
+        let reached = closed(&begin, closures.as_slice())?;
+        let initial = reached.to_marks()?;
+        let rows = closed_rows(alloc, self.rows.as_slice(), closures.as_slice())?;
+        Ok((initial, rows))
+    }
+
+    /// The set of a state and of the states to which empty moves lead from it. Condition: the state is in range.
+    pub(crate) fn near(&self, alloc: Global, state: u32) -> Result<NumberSet, Memory>
+        requires { state < self.now.states }
+        ensures { IfOk result (λ set. AreNear self.now state set) }
+    {
+        let mut set = NumberSet::empty(alloc, self.states())?;
+        set.insert(state);
+        if !self.moves.is_empty() {
+            set.union_with(&self.moves[state as usize]);
+        }
+        Ok(set)
+    }
+
     /// Whether a state is initial. Condition: `state < states`.
     pub fn is_initial(&self, state: u32) -> bool
         requires { state < self.now.states }
@@ -230,6 +326,30 @@ fn unite(row: &mut NumberSet, to: NumberSet)
     } else {
         row.union_with(&to);
     }
+}
+
+/// Adds an empty move to rows, of which there are none where there is no empty move yet.
+fn add_move(
+    moves: &mut Vec<NumberSet>,
+    alloc: Global,
+    states: u32,
+    from: u32,
+    to: u32,
+) -> Result<(), Memory>
+    requires moves { AreMoves states moves.old.items }
+    requires from { from < states }
+    requires to { to < states }
+    ensures ok { OnOk result (HasMove states moves.old.items moves.new.items from to) }
+    ensures err { OnErr result (moves.new.items ≡ moves.old.items) }
+{
+    if moves.is_empty() {
+        let mut rows = no_rows(alloc, states as usize)?;
+        insert(&mut rows[from as usize], alloc, states, to)?;
+        *moves = rows;
+        return Ok(());
+    }
+    insert(&mut moves[from as usize], alloc, states, to)?;
+    Ok(())
 }
 
 /// A number of rows for which there is no step.

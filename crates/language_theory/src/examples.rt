@@ -1,6 +1,6 @@
 //! Worked examples over the letters a = 0 and b = 1.
 
-ghost use Rattle.std.specs.Prelude.{◌∷◌, [], ℕ};
+ghost use Rattle.std.specs.Prelude.{◌∷◌, []};
 ghost use Rattle.language_theory.specs.Words.{◌⊏◌};
 ghost use Rattle.language_theory.specs.Links.{IsPrefixLink, IsSuffixLink};
 ghost use Rattle.language_theory.specs.Congruence.{Syntactic};

@@ -1,6 +1,6 @@
 //! Laws of lists of least representatives (Froidure and Pin 1997: reduced words).
 
-ghost use Rattle.std.specs.Prelude.{◌≡◌, ◌<◌, ◌↔◌, ◌⊎◌, ℕ, List, length};
+ghost use Rattle.std.specs.Prelude.{◌≡◌, ◌<◌, ◌⊎◌, ℕ, List, length};
 ghost use Rattle.language_theory.specs.Words.{Over, IsPrefix, IsFactor, word_at};
 ghost use Rattle.language_theory.specs.Representatives.{AreRepresentatives, IsReduced, HasMoreClasses, HaveAsManyClasses};
 ghost use Rattle.language_theory.specs.Links.{IsPrefixLink, IsSuffixLink};

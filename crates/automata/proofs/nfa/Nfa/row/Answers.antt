@@ -6,10 +6,10 @@ use Rattle.automata.proofs.nfa.Nfa.row.Goals as goal
 pub returns : goal.returns
 returns c =
     let s = c.self.inside in
-    let within = row_within c.args.self.now s.letters s.initial.items s.finals.items s.rows.items
+    let within = row_within c.args.self.now s.letters s.initial.items s.finals.items s.rows.items s.moves.items
     c.args.state c.args.letter c.self.view_is c.self.invariant.1 c.requires.state
     c.requires.letter in
-    row_read c.args.self.now s.letters s.initial.items s.finals.items s.rows.items c.args.state
+    row_read c.args.self.now s.letters s.initial.items s.finals.items s.rows.items s.moves.items c.args.state
     c.args.letter c.index.result.now c.self.view_is c.self.invariant.1 c.requires.state
     c.requires.letter
     (get_or_read s.rows.items _ _

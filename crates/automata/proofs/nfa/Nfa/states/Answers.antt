@@ -7,4 +7,4 @@ pub returns-clause-ordered : goal.returns-clause-ordered
 returns-clause-ordered c =
     let n = c.self.inside in
     subst IsInOrder c.self.view_is (rows_ordered n.letters n.initial.items n.finals.items
-    n.rows.items)
+    n.rows.items n.moves.items)
