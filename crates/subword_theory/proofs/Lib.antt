@@ -6,3 +6,4 @@ pub mod Sharing
 pub mod CommonWords
 pub mod Places
 pub mod Rows
+pub mod Mirrors

@@ -41,6 +41,17 @@ pub same_of_subword : (n : ℕ) (u v : List ℕ) → IsSubword u v
     → ((x : List ℕ) → length x ≤ n → IsSubword x v → IsSubword x u) → SameSubwords n u v
 same_of_subword n u v h f = record { of = λ x l. (λ g. subword_trans g h, f x l) }
 
+-- a word between two with the same short subwords has them too
+pub same_between : {n : ℕ} {u v w : List ℕ} → IsSubword u v → IsSubword v w → SameSubwords n u w
+    → SameSubwords n u v
+same_between h g s =
+    record {
+      of = λ x l. (
+        λ i. subword_trans i h,
+        λ i. (s.of x l).1 (subword_trans i g),
+      );
+    }
+
 pub same_append : {n : ℕ} {u v x y : List ℕ} → SameSubwords n u v → SameSubwords n x y
     → SameSubwords n (u ++ x) (v ++ y)
 same_append {n} {u} {v} {x} {y} s t =
