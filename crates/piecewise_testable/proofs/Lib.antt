@@ -15,3 +15,8 @@ pub mod SwapWitness
 pub mod ToldApart
 pub mod OneAnswer
 pub mod Answering
+pub mod ChainEnds
+pub mod Trails
+pub mod KeptLetters
+pub mod Simon
+pub mod SufficientLevels

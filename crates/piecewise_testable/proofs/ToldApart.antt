@@ -24,7 +24,7 @@ use Rattle.piecewise_testable.proofs.Agreeing.{one_again}
 
 module _ (k : ℕ) (same : List ℕ → List ℕ → Type 0) (q : IsCongruence k same) where
   -- a word that keeps s, repeated, keeps s
-  kept : (side : Side) (s x : List ℕ) → Over k s → Over k x → same s (beside side s x) → (n : ℕ)
+  pub kept : (side : Side) (s x : List ℕ) → Over k s → Over k x → same s (beside side s x) → (n : ℕ)
       → same s (beside side s (power n x))
   kept Right s x os ox h zero =
       subst (same s) (sym (append-nil s)) (q.equivalence.refl s os)

@@ -1,9 +1,10 @@
 -- What is answered of a language's short subwords: the least level that suffices (Simon 1975:
 -- piecewise testable events), or words that no level tells apart. To limit the levels and their
 -- pairs is this project's choice.
-use Rattle.std.specs.Prelude.{◌↔◌, ⊤, ℕ, IsTrue, List}
+use Rattle.std.specs.Prelude.{◌≢◌, ◌≤◌, ◌↔◌, ◌-◌, ◌*◌, ⊤, ℕ, IsTrue, List, length}
 use Rattle.language_theory.specs.Congruence.{Syntactic}
 use Rattle.monoid_theory.specs.Green.{IsRTrivial, IsJTrivial}
+use Rattle.green_relations.specs.Chains.{IsLongestChain}
 use Rattle.level_search.specs.declared.level.Level.{Level}
 use Rattle.level_search.specs.declared.level.Level.TheVariants as level
 use Rattle.level_search.specs.Levels.{IsAnswer}
@@ -44,6 +45,13 @@ IsPiecewiseAnswer k L most last (answer.Yes n) = IsTrivialAnswer k L most last (
 IsPiecewiseAnswer k L most last (answer.Wide n) = IsTrivialAnswer k L most last (level.Wide n)
 IsPiecewiseAnswer k L most last (answer.Pairs n) = IsTrivialAnswer k L most last (level.Pairs n)
 IsPiecewiseAnswer k L most last (answer.NoneTo n) = IsTrivialAnswer k L most last (level.NoneTo n)
+
+-- Where the monoid is J-trivial and n is the number of elements of its longest chain of ideals, level
+-- 2 n - 1 suffices (Simon 1975): a search that goes up to it does not answer that none does.
+abbrev pub IsBoundedBySimon : ℕ → (List ℕ → Type 0) → List (List ℕ) → ℕ → PtAnswer → Type 0
+IsBoundedBySimon k L words last a =
+    (chain : List ℕ) → IsLongestChain k (Syntactic k L) words chain → IsJTrivial k (Syntactic k L)
+    → 2 * length chain - 1 ≤ last → (n : ℕ) → a ≢ answer.NoneTo n
 
 -- what a search answers, as an answer
 abbrev pub answer_of : Level → PtAnswer

@@ -4,7 +4,7 @@ ghost use Rattle.language_theory.specs.Nerode.{IsMinimal};
 ghost use Rattle.language_theory.specs.ShortlexGraph.{SameNode};
 ghost use Rattle.green_relations.specs.GreenClasses.{AreGreens};
 ghost use Rattle.syntactic_monoid.specs.SyntacticMonoid.{recognised};
-ghost use Rattle.piecewise_testable.specs.Answers.{IsPiecewiseAnswer, IsAlwaysToldApart};
+ghost use Rattle.piecewise_testable.specs.Answers.{IsPiecewiseAnswer, IsAlwaysToldApart, IsBoundedBySimon};
 
 use crate::answer::level_answer;
 use crate::subwords::Subwords;
@@ -25,6 +25,9 @@ use syntactic_monoid::Syntactic;
 /// For each n the two words of a witness have the same subwords of length at most n, and exactly one of them is in the
 /// language, the first one as `first_in` says: so no level suffices.
 ///
+/// Where the monoid is J-trivial and its longest chain of ideals has n elements, the answer is not `NoneTo` if
+/// `max_level` is at least 2 n - 1 (Simon 1975).
+///
 /// Conditions: Green's classes are those of the monoid, the automaton is the minimal one of its language,
 /// `max_level <= MOST_LEVEL` and `max_pairs <= MOST_PAIRS`.
 pub fn piecewise(
@@ -43,6 +46,8 @@ pub fn piecewise(
     ensures answer { IfOk result (IsPiecewiseAnswer monoid.now.graphs.right.letters
         (recognised monoid.now) max_pairs max_level) }
     ensures apart { IfOk result (IsAlwaysToldApart (recognised monoid.now)) }
+    ensures simon { IfOk result (IsBoundedBySimon monoid.now.graphs.right.letters
+        (recognised monoid.now) monoid.now.graphs.words max_level) }
 {
     // Its contract tells that this is the syntactic monoid of the language that it recognises.
     let _cayley = monoid.cayley();

@@ -1,9 +1,13 @@
-//! Laws of the answers: each language has one, and the words of a witness are told apart at every level.
-ghost use Rattle.std.specs.Prelude.{◌≡◌, ◌<◌, ◌≤◌, ◌↔◌, ℕ, List, Option};
+//! Laws of the answers: each language has one, and the words of a witness are told apart at every level; and Simon's
+//! theorem, that a level suffices exactly where the monoid is J-trivial.
+ghost use Rattle.std.specs.Prelude.{◌≡◌, ◌<◌, ◌≤◌, ◌↔◌, ◌-◌, ◌*◌, ◌++◌, ◌∷◌, [], ℕ, List, Option, length};
+ghost use Rattle.language_theory.specs.Words.{Over};
 ghost use Rattle.language_theory.specs.Languages.{HaveSameWords};
 ghost use Rattle.language_theory.specs.Congruence.{IsCongruence, Syntactic};
+ghost use Rattle.language_theory.specs.Representatives.{AreRepresentatives};
 ghost use Rattle.language_theory.specs.Nerode.{MinimalAutomaton, IsMinimal};
 ghost use Rattle.monoid_theory.specs.Green.{IsJTrivial};
+ghost use Rattle.green_relations.specs.Chains.{IsLongestChain};
 ghost use Rattle.syntactic_monoid.specs.SyntacticMonoid.{SyntacticMonoid, IsSyntacticMonoid, recognised};
 ghost use Rattle.level_search.specs.Levels.{Suffices};
 ghost use Rattle.subword_theory.specs.ShortSubwords.{SameSubwords};
@@ -75,4 +79,41 @@ pub fn languages_with_the_same_words_have_one_answer<L: Language, M: Language>()
 pub fn the_minimal_automaton_fits_the_monoid<L: Language>()
     ensures { (k : ℕ) (m : SyntacticMonoid) (d : MinimalAutomaton) → IsSyntacticMonoid k L.has m
         → IsMinimal k L.has d → IsMinimal m.graphs.right.letters (recognised m) d }
+{}
+
+/// In a J-trivial monoid, where n is the number of elements of the longest chain of ideals: a letter behind or before a
+/// word that adds no subword of at most n letters keeps the element (Simon 1975).
+pub fn a_letter_that_adds_no_short_subword_keeps_the_element<R: Relation>()
+    ensures behind { (k : ℕ) (words : List (List ℕ)) (chain : List ℕ) → IsCongruence k R.same
+        → AreRepresentatives k R.same words → IsJTrivial k R.same
+        → IsLongestChain k R.same words chain → (u : List ℕ) (a : ℕ) → Over k u → a < k
+        → SameSubwords (length chain) u (u ++ a ∷ []) → R.same (u ++ a ∷ []) u }
+    ensures before { (k : ℕ) (words : List (List ℕ)) (chain : List ℕ) → IsCongruence k R.same
+        → AreRepresentatives k R.same words → IsJTrivial k R.same
+        → IsLongestChain k R.same words chain → (a : ℕ) (v : List ℕ) → a < k → Over k v
+        → SameSubwords (length chain) v (a ∷ v) → R.same (a ∷ v) v }
+{}
+
+/// Simon's theorem (1975): in a J-trivial monoid, where n is the number of elements of the longest chain of ideals,
+/// words with the same subwords of at most 2 n - 1 letters are one element.
+pub fn simons_theorem<R: Relation>()
+    ensures { (k : ℕ) (words : List (List ℕ)) (chain : List ℕ) → IsCongruence k R.same
+        → AreRepresentatives k R.same words → IsJTrivial k R.same
+        → IsLongestChain k R.same words chain → (u v : List ℕ) → Over k u → Over k v
+        → SameSubwords (2 * length chain - 1) u v → R.same u v }
+{}
+
+/// Where the syntactic monoid of a language is J-trivial and its longest chain of ideals has n elements, level 2 n - 1
+/// suffices (Simon 1975).
+pub fn simons_level_suffices<L: Language>()
+    ensures { (k : ℕ) (words : List (List ℕ)) (chain : List ℕ)
+        → AreRepresentatives k (Syntactic k L.has) words
+        → IsLongestChain k (Syntactic k L.has) words chain → IsJTrivial k (Syntactic k L.has)
+        → Suffices k L.has (SameSubwords (2 * length chain - 1)) }
+{}
+
+/// Where a level suffices for a language, its syntactic monoid is J-trivial if it is finite.
+pub fn a_sufficient_level_makes_it_j_trivial<L: Language>()
+    ensures { (k n : ℕ) (words : List (List ℕ)) → AreRepresentatives k (Syntactic k L.has) words
+        → Suffices k L.has (SameSubwords n) → IsJTrivial k (Syntactic k L.has) }
 {}

@@ -7,6 +7,7 @@ use Rattle.answers.specs.declared.subwords.PtAnswer.TheVariants as answer
 use Rattle.piecewise_testable.specs.Witness.{IsAnswerOn}
 use Rattle.piecewise_testable.specs.Answers.{IsPiecewiseAnswer}
 use Rattle.piecewise_testable.proofs.Answering.{refused_on_right, refused_on_left, answer_of_search, always_apart}
+use Rattle.piecewise_testable.proofs.Simon.{bounded_by_simon}
 use Rattle.piecewise_testable.proofs.deciding.piecewise.Goals as goal
 
 pub returns-in-Some-clause-answer : goal.returns-in-Some-clause-answer
@@ -57,3 +58,24 @@ returns-clause-apart c =
     let m = c.args.monoid.now in
     always_apart m.graphs.right.letters (recognised m) c.args.max_pairs c.args.max_level
     c.level_answer.result (returns-clause-answer c)
+
+pub returns-in-Some-clause-simon : goal.returns-in-Some-clause-simon
+returns-in-Some-clause-simon c =
+    let m = c.args.monoid.now in
+    bounded_by_simon m.graphs.right.letters (recognised m) m.graphs.words c.args.max_pairs
+    c.args.max_level (answer.No c.in-Some.witness)
+    c.cayley-cayley.ensures.syntactic.monoid.graphs.words (returns-in-Some-clause-answer c)
+
+pub returns-in-Some-2-clause-simon : goal.returns-in-Some-2-clause-simon
+returns-in-Some-2-clause-simon c =
+    let m = c.args.monoid.now in
+    bounded_by_simon m.graphs.right.letters (recognised m) m.graphs.words c.args.max_pairs
+    c.args.max_level (answer.No c.in-Some-2.witness)
+    c.cayley-cayley.ensures.syntactic.monoid.graphs.words (returns-in-Some-2-clause-answer c)
+
+pub returns-clause-simon : goal.returns-clause-simon
+returns-clause-simon c =
+    let m = c.args.monoid.now in
+    bounded_by_simon m.graphs.right.letters (recognised m) m.graphs.words c.args.max_pairs
+    c.args.max_level c.level_answer.result
+    c.cayley-cayley.ensures.syntactic.monoid.graphs.words (returns-clause-answer c)
