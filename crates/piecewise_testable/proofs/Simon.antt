@@ -10,6 +10,7 @@ use Rattle.language_theory.proofs.Deleting.{subword_itself, subword_append, subw
 use Rattle.language_theory.proofs.Congruences.{syntactic_congruence}
 use Rattle.monoid_theory.specs.Green.{IsJTrivial}
 use Rattle.green_relations.specs.Chains.{IsChain, IsLongestChain}
+use Rattle.green_relations.proofs.ChainLaws.{chain_is_short}
 use Rattle.level_search.specs.Levels.{Suffices}
 use Rattle.subword_theory.specs.ShortSubwords.{SameSubwords}
 use Rattle.subword_theory.proofs.SameWords.{same_symm, same_trans, same_less, same_between}
@@ -93,20 +94,36 @@ module _ (k : ℕ) (same : List ℕ → List ℕ → Type 0) (q : IsCongruence k
           (q.equivalence.symm v w ov ow
           (climbs [] h.second ow (same_trans (same_symm s) h.same)))
 
--- of a language: where its syntactic monoid is J-trivial and n is the number of elements of the
--- longest chain of ideals, level 2 n - 1 suffices
+-- a language whose syntactic monoid is J-trivial
+module _ (k : ℕ) (L : List ℕ → Type 0) (words : List (List ℕ))
+    (l : AreRepresentatives k (Syntactic k L) words) where
+  -- where no chain of ideals has more than m elements, level 2 m - 1 suffices
+  level_by_bound : IsJTrivial k (Syntactic k L) → (m : ℕ)
+      → ((chain : List ℕ) → IsChain k (Syntactic k L) words chain → length chain ≤ m)
+      → Suffices k L (SameSubwords (2 * m - 1))
+  level_by_bound j m most = record { alike = alike }
+    where
+      alike : (u v : List ℕ) → Over k u → Over k v → SameSubwords (2 * m - 1) u v → L u ↔ L v
+      alike u v ou ov s =
+          subst₂ (λ (x y : List ℕ). L x ↔ L y) (append-nil u) (append-nil v)
+          (simons_theorem k (Syntactic k L) (syntactic_congruence k L) words l j m most u v ou ov
+          s [] [] tt tt)
+
+  -- a chain is no longer than the list of elements
+  pub some_level_suffices : IsJTrivial k (Syntactic k L)
+      → (n : ℕ) × Suffices k L (SameSubwords n)
+  some_level_suffices j = (
+    2 * length words - 1,
+    level_by_bound j (length words)
+        (chain_is_short k (Syntactic k L) (syntactic_congruence k L) words l),
+  )
+
+-- where n is the number of elements of the longest chain of ideals, level 2 n - 1 suffices
 pub simons_level_suffices : (k : ℕ) (L : List ℕ → Type 0) (words : List (List ℕ))
     (chain : List ℕ) → AreRepresentatives k (Syntactic k L) words
     → IsLongestChain k (Syntactic k L) words chain → IsJTrivial k (Syntactic k L)
     → Suffices k L (SameSubwords (2 * length chain - 1))
-simons_level_suffices k L words chain l h j = record { alike = alike }
-  where
-    alike : (u v : List ℕ) → Over k u → Over k v → SameSubwords (2 * length chain - 1) u v
-        → L u ↔ L v
-    alike u v ou ov s =
-        subst₂ (λ (x y : List ℕ). L x ↔ L y) (append-nil u) (append-nil v)
-        (simons_theorem k (Syntactic k L) (syntactic_congruence k L) words l j (length chain)
-        h.most u v ou ov s [] [] tt tt)
+simons_level_suffices k L words chain l h j = level_by_bound k L words l j (length chain) h.most
 
 -- an answer of a search that goes up to this level
 pub bounded_by_simon : (k : ℕ) (L : List ℕ → Type 0) (words : List (List ℕ)) (most last : ℕ)

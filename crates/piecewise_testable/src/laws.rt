@@ -117,3 +117,10 @@ pub fn a_sufficient_level_makes_it_j_trivial<L: Language>()
     ensures { (k n : ℕ) (words : List (List ℕ)) → AreRepresentatives k (Syntactic k L.has) words
         → Suffices k L.has (SameSubwords n) → IsJTrivial k (Syntactic k L.has) }
 {}
+
+/// A language with a finite syntactic monoid is piecewise testable, that is, some level suffices for it, exactly where
+/// the monoid is J-trivial (Simon 1975).
+pub fn piecewise_testable_exactly_where_j_trivial<L: Language>()
+    ensures { (k : ℕ) (words : List (List ℕ)) → AreRepresentatives k (Syntactic k L.has) words
+        → IsJTrivial k (Syntactic k L.has) ↔ ((n : ℕ) × Suffices k L.has (SameSubwords n)) }
+{}
