@@ -147,6 +147,12 @@ no_moves_where states f none =
     none_below _ states (λ p. none_below _ states (λ q.
     ap (λ (b : Bool). if b then (p, q) ∷ [] else []) (none p q)))
 
+-- steps that are listed by a test stand in order, where there are no empty moves
+pub plain_in_order : (m : Automaton) (f : ℕ → ℕ → ℕ → Bool)
+    → m.steps ≡ steps_where m.states m.letters f → m.moves ≡ [] → IsInOrder m
+plain_in_order m f e none = in_order_where m f (λ p q. false) e
+    (none ∙ sym (no_moves_where m.states (λ p q. false) (λ p q. refl)))
+
 pub bare_ordered : (states letters : ℕ) → IsInOrder (bare states letters)
 bare_ordered states letters = record {
   steps = sym (none_where states letters _ (λ p a q. refl));

@@ -3,7 +3,7 @@ use Rattle.std.proofs.Common.{◌≡◌, ℕ, zero, suc, false, ◌&&◌, ◌||�
 use Rattle.std.specs.Bool.{Decides}
 use Rattle.std.proofs.lemmas.Bool.{both_ways}
 use Rattle.std.proofs.lemmas.Bool.Decides.{Decides-and, Decides-or, Decides-eqb}
-use Rattle.language_theory.specs.Automaton.{is_initial, is_final, has_step, steps_where, IsInOrder}
+use Rattle.language_theory.specs.Automaton.{is_initial, is_final, has_step, steps_where, moves_where, IsInOrder}
 use Rattle.expression_theory.specs.Expression.{Tree, Letter, Cat, Star, nothing}
 use Rattle.expression_theory.specs.Positions.{numbered, PositionWord, Begins, Ends, letter_of, StepsTo, IsFinalPosition, IsPositions}
 use Rattle.expression_theory.specs.Examples.{ab_star_positions}
@@ -128,8 +128,8 @@ final (suc (suc (suc p))) = (
 
 -- the steps stand in order
 ordered : IsInOrder ab_star_positions
-unfolding steps_where
-ordered = refl
+unfolding steps_where moves_where
+ordered = record { steps = refl; moves = refl }
 
 pub positions : IsPositions (Star (Cat (Letter 0) (Letter 1))) 2 ab_star_positions
 positions = record {
@@ -141,4 +141,5 @@ positions = record {
   final = final;
   step = step;
   ordered = ordered;
+  plain = refl;
 }

@@ -1,7 +1,8 @@
 -- A position automaton accepts the words of the expression, and no others.
 use Rattle.std.proofs.Common.{◌≡◌, ◌∙◌, ℕ, suc, zero, ◌+◌, ◌<◌, List, [], ◌∷◌, ◌++◌, length, refl, sym, subst, append_assoc, arith, ◌↔◌}
 use Rattle.language_theory.specs.Automaton.{Automaton, AcceptsFrom, Accepts}
-use Rattle.language_theory.proofs.StepLists.{in_order_alike}
+use Rattle.language_theory.proofs.Automata.{accepts_none, accepts_letter}
+use Rattle.language_theory.proofs.StepLists.{steps_alike}
 use Rattle.language_theory.proofs.OneAutomaton.{by_same, same_row, same_fields}
 use Rattle.expression_theory.specs.Expression.{Tree, Means}
 use Rattle.expression_theory.specs.Positions.{positions, PositionWord, StepsTo, IsFinalPosition, IsPositions}
@@ -17,16 +18,19 @@ steps_below t (suc p) q (u, v, h) =
 
 runs_of : (t : Tree) (k : ℕ) (m : Automaton) → IsPositions t k m → (w : List ℕ) (p : ℕ)
     → AcceptsFrom m w p → RunsFrom t w p
-runs_of t k m h [] p f = (h.final p).0 f
-runs_of t k m h (a ∷ w) p (q, (b, s), f) = let l = (h.step p a q).0 s in
-    (q, l.0, l.1, runs_of t k m h w q f)
+runs_of t k m h [] p f = (h.final p).0 ((accepts_none m h.plain p).0 f)
+runs_of t k m h (a ∷ w) p f =
+    let (q, b, more) = (accepts_letter m h.plain p a w).0 f in
+    let l = (h.step p a q).0 b.1 in
+    (q, l.0, l.1, runs_of t k m h w q more)
 
 of_runs : (t : Tree) (k : ℕ) (m : Automaton) → IsPositions t k m → (w : List ℕ) (p : ℕ)
     → RunsFrom t w p → AcceptsFrom m w p
-of_runs t k m h [] p f = (h.final p).1 f
+of_runs t k m h [] p f = (accepts_none m h.plain p).1 ((h.final p).1 f)
 of_runs t k m h (a ∷ w) p (q, l, e, f) =
     let b = steps_below t p q l in
     let s = h.states in
+    (accepts_letter m h.plain p a w).1
     (q, (omega arith, (h.step p a q).1 (l, e)), of_runs t k m h w q f)
 
 -- an expression has one position automaton at most
@@ -40,8 +44,9 @@ one_positions t k m n h i =
     (λ p _. h.initial p) (λ p _. i.initial p))
     (same_row m.finals n.finals n.states (IsFinalPosition t) (h.finals ∙ states) i.finals
     (λ p _. h.final p) (λ p _. i.final p))
-    (in_order_alike m n h.ordered i.ordered states letters
+    (steps_alike m n h.ordered i.ordered states letters
     (λ p a q. by_same _ _ (h.step p a q) (i.step p a q)))
+    (h.plain ∙ sym i.plain)
 
 -- a position automaton accepts exactly the words of its expression
 pub accepts_words : (t : Tree) (k : ℕ) (m : Automaton) → IsPositions t k m → (w : List ℕ)

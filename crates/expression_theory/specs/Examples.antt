@@ -11,4 +11,5 @@ ab_star_positions = record {
   initial = true ∷ false ∷ false ∷ [];
   finals = true ∷ false ∷ true ∷ [];
   steps = (0, 0, 1) ∷ (1, 1, 2) ∷ (2, 0, 1) ∷ [];
+  moves = [];
 }

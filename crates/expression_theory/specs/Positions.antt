@@ -58,7 +58,8 @@ IsFinalPosition t zero = Means t []
 IsFinalPosition t (suc p) = Ends (PositionWord t) (suc p)
 
 -- m is the position automaton over k letters: state 0 is the only initial one, and state i is
--- the i-th position from the left; each state has a mark in both rows, and the steps stand in order
+-- the i-th position from the left; each state has a mark in both rows, the steps stand in order, and
+-- there are no empty moves
 pub record IsPositions (t : Tree) (k : ℕ) (m : Automaton) : Type 0 where
   pub states : m.states ≡ length (positions t) + 1
   pub letters : m.letters ≡ k
@@ -68,6 +69,7 @@ pub record IsPositions (t : Tree) (k : ℕ) (m : Automaton) : Type 0 where
   pub final : (p : ℕ) → IsTrue (is_final m p) ↔ IsFinalPosition t p
   pub step : (p a q : ℕ) → IsTrue (has_step m p a q) ↔ (StepsTo t p q × (letter_of t q ≡ a))
   pub ordered : IsInOrder m
+  pub plain : m.moves ≡ []
 
 -- the expressions that have a position automaton here: not too many nodes, and letters below k
 pub record IsWithin (k : ℕ) (t : Tree) : Type 0 where

@@ -252,15 +252,21 @@ in_order_where m f g e d = record {
       sym (ap (list_any (is_move p q)) d ∙ has_moves m.states g p q lp lq));
 }
 
--- automata with the same states, letters, steps and empty moves, which stand in order, list them
--- alike
+-- automata with the same states, letters and steps, which stand in order, list them alike
+pub steps_alike : (m n : Automaton) → IsInOrder m → IsInOrder n → m.states ≡ n.states
+    → m.letters ≡ n.letters → ((p a q : ℕ) → has_step m p a q ≡ has_step n p a q)
+    → m.steps ≡ n.steps
+steps_alike m n h k e i same =
+    h.steps ∙ same_where m.states m.letters (has_step m) (has_step n) (λ p a q lp la lq. same p a q)
+    ∙ ap (λ (s : ℕ). steps_where s m.letters (has_step n)) e
+    ∙ ap (λ (l : ℕ). steps_where n.states l (has_step n)) i ∙ sym k.steps
+
+-- and so empty moves
 pub in_order_alike : (m n : Automaton) → IsInOrder m → IsInOrder n → m.states ≡ n.states
     → m.letters ≡ n.letters → ((p a q : ℕ) → has_step m p a q ≡ has_step n p a q)
     → ((p q : ℕ) → has_move m p q ≡ has_move n p q) → (m.steps ≡ n.steps) × (m.moves ≡ n.moves)
 in_order_alike m n h k e i same also = (
-  h.steps ∙ same_where m.states m.letters (has_step m) (has_step n) (λ p a q lp la lq. same p a q)
-      ∙ ap (λ (s : ℕ). steps_where s m.letters (has_step n)) e
-      ∙ ap (λ (l : ℕ). steps_where n.states l (has_step n)) i ∙ sym k.steps,
+  steps_alike m n h k e i same,
   h.moves ∙ same_moves m.states (has_move m) (has_move n) (λ p q lp lq. also p q)
       ∙ ap (λ (s : ℕ). moves_where s (has_move n)) e ∙ sym k.moves,
 )

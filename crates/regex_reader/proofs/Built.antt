@@ -143,6 +143,7 @@ built_positions t k r m xs a part table e built = record {
   );
   step = λ p x q. (to p x q, from p x q);
   ordered = built.ordered;
+  plain = built.plain;
 }
   where
     finals : (p : ℕ) → is_final a p ≡ Finals t p
@@ -211,6 +212,7 @@ built_from n k he last table xs a b c d e f g h w below sized ordered = record {
   steps = λ p x q. (to p x q, from p x q);
   sized = sized;
   ordered = ordered;
+  plain = h.moves ∙ g.moves ∙ f.moves ∙ ap (λ (m : Automaton). m.moves) e;
 }
   where
     none : (p x q : ℕ) → IsTrue (has_step c p x q) → ⊥

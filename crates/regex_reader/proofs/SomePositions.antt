@@ -6,7 +6,8 @@ use Rattle.std.proofs.lemmas.List.Elements.{All-get_or}
 use Rattle.std.proofs.lemmas.Bool.{cases_lt, and_parts, and_from, eqb-true, eq-eqb}
 use Rattle.std.proofs.lemmas.Bool.Decides.{Decides-eqb}
 use Rattle.language_theory.specs.Automaton.{Automaton, steps_where}
-use Rattle.language_theory.proofs.StepLists.{listed_where, in_order_where}
+use Rattle.language_theory.proofs.StepLists.{listed_where}
+use Rattle.automata.proofs.Steps.{plain_in_order}
 use Rattle.expression_theory.specs.Expression.{Tree}
 use Rattle.expression_theory.specs.Positions.{positions, letter_of, IsFinalPosition, IsPositions}
 use Rattle.expression_theory.proofs.Exchange.{between}
@@ -46,6 +47,7 @@ position_automaton k t = record {
   initial = marks_from (λ p. 0 == p) 0 (length (positions t) + 1);
   finals = marks_from (Finals t) 0 (length (positions t) + 1);
   steps = steps_where (length (positions t) + 1) k (leads t);
+  moves = [];
 }
 
 -- a row of marks tells where a fact holds that holds of no number behind its end
@@ -102,6 +104,7 @@ some_positions k t within = (
                 (eq-eqb (letter_of t q) a l),
           ),
     );
-    ordered = in_order_where (position_automaton k t) (leads t) refl;
+    ordered = plain_in_order (position_automaton k t) (leads t) refl refl;
+    plain = refl;
   },
 )

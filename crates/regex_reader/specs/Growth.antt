@@ -1,5 +1,5 @@
 -- What an automaton gains.
-use Rattle.std.specs.Prelude.{◌≡◌, ℕ, ◌-◌, ◌+◌, ◌<◌, ◌≤◌, ◌&&◌, ◌||◌, ◌==◌, ◌⊎◌, ◌↔◌, Bool, IsTrue, List, length, slice_index}
+use Rattle.std.specs.Prelude.{◌≡◌, ℕ, ◌-◌, ◌+◌, ◌<◌, ◌≤◌, ◌&&◌, ◌||◌, ◌==◌, ◌⊎◌, ◌↔◌, Bool, IsTrue, List, [], length, slice_index}
 use Rattle.language_theory.specs.Automaton as automaton
 use Rattle.language_theory.specs.Automaton.{Automaton, is_initial, is_final, has_step, IsInOrder}
 use Rattle.automata.specs.Nfa.{IsSized}
@@ -12,6 +12,7 @@ pub record HasFinals (old new : Automaton) (f : ℕ → Bool) : Type 0 where
   pub letters : new.letters ≡ old.letters
   pub initial : new.initial ≡ old.initial
   pub steps : new.steps ≡ old.steps
+  pub moves : new.moves ≡ old.moves
   pub long : length new.finals ≡ length old.finals
   pub finals : (p : ℕ) → is_final new p ≡ (is_final old p || f p)
 
@@ -21,6 +22,7 @@ pub record HasGrown (old new : Automaton) (F : ℕ → ℕ → ℕ → Type 0) :
   pub letters : new.letters ≡ old.letters
   pub initial : new.initial ≡ old.initial
   pub finals : new.finals ≡ old.finals
+  pub moves : new.moves ≡ old.moves
   pub steps : (p a q : ℕ) → IsTrue (has_step new p a q) ↔ (IsTrue (has_step old p a q) ⊎ F p a q)
 
 -- q is one of the first k positions, and has the letter a
@@ -64,3 +66,4 @@ pub record IsBuilt (has_empty : Bool) (last : List ℕ) (table : Table) (positio
       ↔ IsTableStep table positions p a q
   pub sized : IsSized m
   pub ordered : IsInOrder m
+  pub plain : m.moves ≡ []

@@ -1,5 +1,5 @@
 -- Rows of marks that words lead to, and the states that words reach.
-use Rattle.std.proofs.Common.{◌≡◌, ℕ, ◌+◌, ◌<◌, ◌≤◌, ◌↔◌, ◌||◌, inl, inr, Bool, true, false, IsTrue, List, [], ◌∷◌, ◌++◌, length, replicate, refl, ap, sym, subst, ◌∙◌, arith}
+use Rattle.std.proofs.Common.{◌≡◌, ℕ, ◌+◌, ◌<◌, ◌≤◌, ◌↔◌, ◌||◌, inl, inr, Bool, true, false, IsTrue, List, [], ◌∷◌, ◌++◌, length, replicate, ap, sym, subst, ◌∙◌, arith}
 use Rattle.std.specs.List.{list_any}
 use Rattle.std.specs.Cmp.{both_ways as equal_tests}
 use Rattle.std.proofs.lemmas.Bool.{both_ways, cases_lt, or_cases}
@@ -8,10 +8,10 @@ use Rattle.std.proofs.lemmas.List.{ext_get_or, get_or-replicate, length-replicat
 use Rattle.std.proofs.lemmas.List.FromFn.{length-map-range_with_len, get_or-map-range_with_len}
 use Rattle.std.proofs.lemmas.List.Folds.{Any-from_list_any, list_any_at}
 use Rattle.std.proofs.lemmas.Grind.{common_steps}
-use Rattle.language_theory.specs.Automaton.{Automaton, IsAutomaton, is_marked, is_step, has_step, Leads, IsReached, SameSubset, Accepts}
+use Rattle.language_theory.specs.Automaton.{Automaton, IsAutomaton, is_marked, is_step, has_step, Path, stay, step, IsReached, SameSubset, Accepts}
 use Rattle.language_theory.specs.Congruence.{moved}
 use Rattle.language_theory.proofs.Congruences.{moved_append}
-use Rattle.language_theory.proofs.Automata.{accepts_reached, reached_within}
+use Rattle.language_theory.proofs.Automata.{path_steps, path_stays, accepts_reached, reached_within}
 use Rattle.subset_minimal.specs.Subsets.{comes_from, successor, set_of, HasFinal}
 use Rattle.automata.specs.Nfa.{IsRow}
 use Rattle.number_set.specs.Marks.{HasGained}
@@ -49,21 +49,21 @@ successor_marks m marks a q good hq = (to, from)
     to h =
         let (i, s, within, at, comes) = Any-from_list_any (comes_from marks a q) m.steps
         (sym (successor_at m marks a q hq) ∙ h) in
-        let (marked, step) = comes_from-step marks a q s comes in
+        let (marked, leads) = comes_from-step marks a q s comes in
         let bound : s.0 < m.states =
         subst (λ (t : ℕ × ℕ × ℕ). t.0 < m.states) at (good.from i s within) in (
           s.0,
           bound,
           marked,
-          list_any_at (is_step s.0 a q) m.steps i s within (ap (is_step s.0 a q) at ∙ step),
+          list_any_at (is_step s.0 a q) m.steps i s within (ap (is_step s.0 a q) at ∙ leads),
         )
 
     from : (p : ℕ) × (p < m.states) × IsTrue (is_marked marks p) × IsTrue (has_step m p a q)
         → IsTrue (is_marked (successor m marks a) q)
     from (p, hp, marked, found) =
-        let (i, s, within, at, step) = Any-from_list_any (is_step p a q) m.steps found in
+        let (i, s, within, at, leads) = Any-from_list_any (is_step p a q) m.steps found in
         successor_at m marks a q hq ∙ list_any_at (comes_from marks a q) m.steps i s within
-        (ap (comes_from marks a q) at ∙ step-comes_from marks p a q s marked step)
+        (ap (comes_from marks a q) at ∙ step-comes_from marks p a q s marked leads)
 
 -- ---- words
 
@@ -76,75 +76,77 @@ pub set_of_last : (m : Automaton) (w : List ℕ) (a : ℕ)
     → set_of m (w ++ a ∷ []) ≡ successor m (set_of m w) a
 set_of_last m w a = moved_append (successor m) m.initial w (a ∷ [])
 
--- the marks are those of the states to which the word leads from marked states
-moved_marks : (m : Automaton) (marks : List Bool) (w : List ℕ) (r : ℕ) → IsAutomaton m
-    → r < m.states → IsTrue (is_marked (moved (successor m) marks w) r)
-    ↔ ((p : ℕ) × (p < m.states) × IsTrue (is_marked marks p) × Leads m p w r)
-moved_marks m marks [] r good hr = (
-  λ h. (r, hr, h, refl),
-  λ x. let (p, hp, marked, e) =
-      x in subst (λ q. IsTrue (is_marked marks q)) e marked,
+-- without empty moves the marks are those of the states to which the word leads from marked states
+moved_marks : (m : Automaton) (marks : List Bool) (w : List ℕ) (r : ℕ) → m.moves ≡ []
+    → IsAutomaton m → r < m.states → IsTrue (is_marked (moved (successor m) marks w) r)
+    ↔ ((p : ℕ) × (p < m.states) × IsTrue (is_marked marks p) × Path m p w r)
+moved_marks m marks [] r none good hr = (
+  λ h. (r, hr, h, stay),
+  λ x. let (p, hp, marked, path) = x in
+      subst (λ q. IsTrue (is_marked marks q)) (path_stays m none path) marked,
 )
-moved_marks m marks (a ∷ w) r good hr = let rest =
-    moved_marks m (successor m marks a) w r good hr in (to rest.0, from rest.1)
+moved_marks m marks (a ∷ w) r none good hr = let rest =
+    moved_marks m (successor m marks a) w r none good hr in (to rest.0, from rest.1)
   where
     to : (IsTrue (is_marked (moved (successor m) (successor m marks a) w) r)
-        → (q : ℕ) × (q < m.states) × IsTrue (is_marked (successor m marks a) q) × Leads m q w r)
+        → (q : ℕ) × (q < m.states) × IsTrue (is_marked (successor m marks a) q) × Path m q w r)
         → IsTrue (is_marked (moved (successor m) (successor m marks a) w) r)
-        → (p : ℕ) × (p < m.states) × IsTrue (is_marked marks p) × Leads m p (a ∷ w) r
+        → (p : ℕ) × (p < m.states) × IsTrue (is_marked marks p) × Path m p (a ∷ w) r
     to rest h =
-        let (q, hq, next, leads) = rest h in
-        let (p, hp, marked, step) = (successor_marks m marks a q good hq).0 next in
-        (p, hp, marked, (q, (hq, step), leads))
+        let (q, hq, next, path) = rest h in
+        let (p, hp, marked, found) = (successor_marks m marks a q good hq).0 next in
+        (p, hp, marked, step (hq, found) path)
 
-    from : ((q : ℕ) × (q < m.states) × IsTrue (is_marked (successor m marks a) q) × Leads m q w r
+    from : ((q : ℕ) × (q < m.states) × IsTrue (is_marked (successor m marks a) q) × Path m q w r
         → IsTrue (is_marked (moved (successor m) (successor m marks a) w) r))
-        → (p : ℕ) × (p < m.states) × IsTrue (is_marked marks p) × Leads m p (a ∷ w) r
+        → (p : ℕ) × (p < m.states) × IsTrue (is_marked marks p) × Path m p (a ∷ w) r
         → IsTrue (is_marked (moved (successor m) (successor m marks a) w) r)
-    from rest (p, hp, marked, (q, (hq, step), leads)) =
-        rest (q, hq, (successor_marks m marks a q good hq).1 (p, hp, marked, step), leads)
+    from rest (p, hp, marked, path) =
+        let (q, (hq, found), more) = path_steps m none path in
+        rest (q, hq, (successor_marks m marks a q good hq).1 (p, hp, marked, found), more)
 
 pub set_of_long : (m : Automaton) (w : List ℕ) → IsAutomaton m → length (set_of m w) ≡ m.states
 set_of_long m w good = moved_long m m.initial w good.initial
 
 -- the set of a word has the states that the word reaches
-pub set_of_marks : (m : Automaton) (w : List ℕ) (r : ℕ) → IsAutomaton m → r < m.states
+pub set_of_marks : (m : Automaton) (w : List ℕ) (r : ℕ) → m.moves ≡ []
+    → IsAutomaton m → r < m.states
     → IsTrue (is_marked (set_of m w) r) ↔ IsReached m w r
-set_of_marks m w r good hr = (
+set_of_marks m w r none good hr = (
   λ h. let (p, hp, marked, leads) =
-      (moved_marks m m.initial w r good hr).0 h in (p, (hp, marked), leads),
+      (moved_marks m m.initial w r none good hr).0 h in (p, (hp, marked), leads),
   λ x. let (p, (hp, marked), leads) =
-      x in (moved_marks m m.initial w r good hr).1 (p, hp, marked, leads),
+      x in (moved_marks m m.initial w r none good hr).1 (p, hp, marked, leads),
 )
 
 -- words reach the same states exactly where their sets are equal
-pub same_sets : (m : Automaton) (u v : List ℕ) → IsAutomaton m
+pub same_sets : (m : Automaton) (u v : List ℕ) → m.moves ≡ [] → IsAutomaton m
     → (set_of m u ≡ set_of m v) ↔ SameSubset m u v
-same_sets m u v good = (λ e r. (half u v e r, half v u (sym e) r), from)
+same_sets m u v none good = (λ e r. (half u v e r, half v u (sym e) r), from)
   where
     half : (u v : List ℕ) → set_of m u ≡ set_of m v → (r : ℕ) → IsReached m u r → IsReached m v r
     half u v e r h =
         let hr = reached_within m u r h in
-        (set_of_marks m v r good hr).0
-        (subst (λ marks. IsTrue (is_marked marks r)) e ((set_of_marks m u r good hr).1 h))
+        (set_of_marks m v r none good hr).0
+        (subst (λ marks. IsTrue (is_marked marks r)) e ((set_of_marks m u r none good hr).1 h))
 
     from : SameSubset m u v → set_of m u ≡ set_of m v
     from same = ext_get_or false (set_of m u) (set_of m v)
         (set_of_long m u good ∙ sym (set_of_long m v good)) (λ r l.
         let hr : r < m.states = subst (λ n. r < n) (set_of_long m u good) l in
-        let a = set_of_marks m u r good hr in
-        let b = set_of_marks m v r good hr in
+        let a = set_of_marks m u r none good hr in
+        let b = set_of_marks m v r none good hr in
         equal_tests (is_marked (set_of m u) r) (is_marked (set_of m v) r)
         (λ h. b.1 ((same r).0 (a.0 h))) (λ h. a.1 ((same r).1 (b.0 h))))
 
 -- a word is accepted exactly where its set has a final state
-pub accepts_by_set : (m : Automaton) (w : List ℕ) → IsAutomaton m
+pub accepts_by_set : (m : Automaton) (w : List ℕ) → m.moves ≡ [] → IsAutomaton m
     → HasFinal m (set_of m w) ↔ Accepts m w
-accepts_by_set m w good = (
+accepts_by_set m w none good = (
   λ h. let (r, hr, marked, final) =
-      h in (accepts_reached m w).1 (r, (set_of_marks m w r good hr).0 marked, final),
+      h in (accepts_reached m w).1 (r, (set_of_marks m w r none good hr).0 marked, final),
   λ h. let (r, reached, final) = (accepts_reached m w).0 h in let hr =
-      reached_within m w r reached in (r, hr, (set_of_marks m w r good hr).1 reached, final),
+      reached_within m w r reached in (r, hr, (set_of_marks m w r none good hr).1 reached, final),
 )
 
 -- ---- a set that is made state by state
