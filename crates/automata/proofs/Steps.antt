@@ -7,7 +7,7 @@ use Rattle.std.proofs.lemmas.Bool.{and_parts, or_cases, eqb-true}
 use Rattle.std.proofs.lemmas.List.Folds.{Any-from_list_any}
 use Rattle.language_theory.specs.Automaton.{Automaton, IsAutomaton, is_step, is_move, has_step, has_move, steps_where, moves_where, IsInOrder}
 use Rattle.language_theory.proofs.StepLists.{with_one_more, listed_where, listed_moves, all_where, in_order_where}
-use Rattle.automata.specs.Nfa.{with_step, with_move, bare}
+use Rattle.automata.specs.Nfa.{with_step, with_move}
 
 -- the states and the letter of a step are in range
 pub step_within : (m : Automaton) (p a q : ℕ) → IsAutomaton m → IsTrue (has_step m p a q)
@@ -153,8 +153,7 @@ pub plain_in_order : (m : Automaton) (f : ℕ → ℕ → ℕ → Bool)
 plain_in_order m f e none = in_order_where m f (λ p q. false) e
     (none ∙ sym (no_moves_where m.states (λ p q. false) (λ p q. refl)))
 
-pub bare_ordered : (states letters : ℕ) → IsInOrder (bare states letters)
-bare_ordered states letters = record {
-  steps = sym (none_where states letters _ (λ p a q. refl));
-  moves = sym (no_moves_where states _ (λ p q. refl));
-}
+-- and so where there are no steps either
+pub nothing_in_order : (m : Automaton) → m.steps ≡ [] → m.moves ≡ [] → IsInOrder m
+nothing_in_order m e none = plain_in_order m (λ p a q. false)
+    (e ∙ sym (none_where m.states m.letters (λ p a q. false) (λ p a q. refl))) none

@@ -5,6 +5,8 @@
 #[cfg(test)]
 mod devices;
 #[cfg(test)]
+mod empty_moves;
+#[cfg(test)]
 mod expressions;
 #[cfg(test)]
 mod files;

@@ -7,15 +7,15 @@ use Rattle.std.specs.List.{list_any, Any, AllZip}
 use Rattle.std.proofs.Math.Bool.{or-false}
 use Rattle.std.proofs.lemmas.Bool.{and_parts, and_from, or_cases, or_left, or_right, eqb-true, eq-eqb, cases_eq, cases_order}
 use Rattle.std.proofs.lemmas.Fmt.{decimal_injective}
-use Rattle.std.proofs.lemmas.List.{same_lists, get_or-set_other, length-set, length-replicate, get_or-replicate, get_or_default}
+use Rattle.std.proofs.lemmas.List.{get_or-set_other, length-set, length-replicate, get_or-replicate}
 use Rattle.std.proofs.lemmas.Grind.{get_or-set_at}
 use Rattle.std.proofs.lemmas.List.Elements.{All-head, All-tail, All-nil, All-cons}
 use Rattle.language_theory.specs.Automaton.{Automaton, IsAutomaton, IsInOrder, is_initial, is_final, is_marked, is_step, has_step}
-use Rattle.language_theory.proofs.StepLists.{in_order_alike}
+use Rattle.language_theory.proofs.StepLists.{steps_alike}
 use Rattle.language_theory.proofs.OneAutomaton.{by_same, same_row, same_fields}
 use Rattle.syn_words.specs.Alphabet.{IsAlphabet}
 use Rattle.automata.specs.Nfa.{bare, with_initial, with_final, with_step}
-use Rattle.automata.proofs.Steps.{adding_a_step, with_step_automaton, with_step_ordered, bare_ordered}
+use Rattle.automata.proofs.Steps.{adding_a_step, with_step_automaton, with_step_ordered, nothing_in_order}
 use Rattle.automaton_file.specs.LineText.{fields, value}
 use Rattle.automaton_file.specs.Parts.{Lines, Fields, SpellsNumber, IsState, IsStatesLine, Names, SpellsStep, IsStepLine, SpellsAutomaton, most_states}
 use Rattle.automaton_file.specs.FileText.{letter_of}
@@ -169,7 +169,7 @@ pub steps_ordered : (m : Automaton) (xs : List (ℕ × ℕ × ℕ)) → IsInOrde
     → IsInOrder (with_steps m xs)
 steps_ordered m [] ordered = ordered
 steps_ordered m (s ∷ xs) ordered =
-    steps_ordered (with_step m s.0 s.1 s.2) xs (with_step_ordered m s.0 s.1 s.2)
+    steps_ordered (with_step m s.0 s.1 s.2) xs (with_step_ordered m s.0 s.1 s.2 ordered)
 
 or_assoc : (a b c : Bool) → ((a || b) || c) ≡ (a || (b || c))
 or_assoc true b c = refl
@@ -315,6 +315,7 @@ rows_alone states letters initial final = record {
   finals = row_with
       (replicate states false) (drop 1 (fields final));
   steps = [];
+  moves = [];
 }
 
 rows_read : (states letters : ℕ) (initial final : List ℕ)
@@ -338,6 +339,8 @@ rows_automaton states letters initial final = record {
   from = All-nil _;
   letter = All-nil _;
   to = All-nil _;
+  moves_from = All-nil _;
+  moves_to = All-nil _;
 }
 
 -- with the steps of the lines it is the automaton that the lines spell
@@ -366,7 +369,8 @@ spelled_by_rows alphabet states initial final steps xs is few i f zip = record {
         λ any. has
             ∙ among_spelled alphabet states p a q steps xs is few zip any,
       );
-  ordered = steps_ordered rows xs (bare_ordered states (length alphabet));
+  ordered = steps_ordered rows xs (nothing_in_order rows refl refl);
+  plain = ap (λ (m : Automaton). m.moves) (steps_alone rows xs);
 }
   where
     rows : Automaton
@@ -406,5 +410,6 @@ one_spelled alphabet states initial final steps m n h k =
     ∙ h.states) (k.automaton.initial ∙ k.states) h.initial k.initial)
     (same_row m.finals n.finals states (Names final) (h.automaton.finals
     ∙ h.states) (k.automaton.finals ∙ k.states) h.finals k.finals)
-    (in_order_alike m n h.ordered k.ordered size letters
+    (steps_alike m n h.ordered k.ordered size letters
     (λ p a q. by_same _ _ (h.steps p a q) (k.steps p a q)))
+    (h.plain ∙ sym k.plain)

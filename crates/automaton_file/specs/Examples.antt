@@ -16,6 +16,7 @@ worked_automaton = record {
   initial = true ∷ false ∷ [];
   finals = false ∷ true ∷ [];
   steps = (0, 0, 1) ∷ (1, 1, 0) ∷ (1, 1, 1) ∷ [];
+  moves = [];
 }
 
 abbrev pub worked_source : SourceText

@@ -86,7 +86,7 @@ IsStepLine alphabet states line = (p a q : ℕ) × SpellsStep alphabet states p 
 -- The automaton that a line `initial`, a line `final` and the step lines spell: a state is
 -- initial exactly where a field of the line `initial` spells its number, final likewise, and
 -- there is a step exactly where some step line spells it. The steps are listed in the order of
--- their states, letters and targets, each once.
+-- their states, letters and targets, each once, and there are no empty moves.
 pub record SpellsAutomaton (alphabet : List ℕ) (count : ℕ) (initial_line final_line : List ℕ)
     (step_lines : Lines) (m : Automaton) : Type 0 where
   pub automaton : IsAutomaton m
@@ -97,3 +97,4 @@ pub record SpellsAutomaton (alphabet : List ℕ) (count : ℕ) (initial_line fin
   pub steps : (p a q : ℕ) → IsTrue (has_step m p a q)
       ↔ Any (SpellsStep alphabet count p a q) step_lines
   pub ordered : IsInOrder m
+  pub plain : m.moves ≡ []

@@ -8,9 +8,9 @@ use Rattle.std.proofs.lemmas.Grind.{flat_map-append}
 use Rattle.std.proofs.lemmas.List.{length-replicate}
 use Rattle.std.proofs.lemmas.List.Elements.{All-nil, All-cons, All-head, All-tail, All-append, All-weaker}
 use Rattle.language_theory.specs.Automaton.{Automaton, IsAutomaton}
-use Rattle.language_theory.proofs.StepLists.{with_one_more, all_below, in_order_alike}
+use Rattle.language_theory.proofs.StepLists.{with_one_more, all_below, steps_alike}
 use Rattle.automata.specs.Nfa.{bare}
-use Rattle.automata.proofs.Steps.{bare_ordered}
+use Rattle.automata.proofs.Steps.{nothing_in_order}
 use Rattle.automaton_file.specs.LineText.{text_lines, fields, is_plain, is_significant, parts}
 use Rattle.automaton_file.specs.Parts.{Lines, IsState, SpellsAlphabet, SpellsCount, IsStatesLine, SpellsAutomaton}
 use Rattle.automaton_file.specs.FileText.{most_bytes, SpellsAutomatonFile, IsSource}
@@ -161,13 +161,22 @@ rows_alone size = record {
   initial = first_alone size;
   finals = first_alone size;
   steps = [];
+  moves = [];
 }
 
 rows_automaton : (size : ℕ) → 1 ≤ size → IsAutomaton (rows_alone size)
 rows_automaton size some =
     let long : length (first_alone size) ≡ size =
     omega (arith, length-replicate (size - 1) false) in
-    record { initial = long; finals = long; from = All-nil _; letter = All-nil _; to = All-nil _ }
+    record {
+      initial = long;
+      finals = long;
+      from = All-nil _;
+      letter = All-nil _;
+      to = All-nil _;
+      moves_from = All-nil _;
+      moves_to = All-nil _;
+    }
 
 marks_read : (size : ℕ) (steps : Lines) → 1 ≤ size
     → automaton_of ab (bare size 2) (codes "initial 0" ∷ codes "final 0" ∷ steps)
@@ -175,7 +184,8 @@ marks_read : (size : ℕ) (steps : Lines) → 1 ≤ size
 unfolding fields
 marks_read size steps some =
     ap (λ (row : List Bool). with_step_lines ab
-    (record { states = size; letters = 2; initial = row; finals = row; steps = [] }) steps)
+    (record { states = size; letters = 2; initial = row; finals = row; steps = []; moves = [] })
+    steps)
     (first_marked size some)
 
 steps_within : (size : ℕ)
@@ -198,8 +208,8 @@ steps_read size some =
     let alone = steps_alone rows steps in
     alone
     ∙ ap (λ (xs : List (ℕ × ℕ × ℕ)). record rows { steps = xs })
-    (in_order_alike (with_steps rows steps) (generated_automaton size)
-    (steps_ordered rows steps (bare_ordered size 2)) (generated_ordered size)
+    (steps_alike (with_steps rows steps) (generated_automaton size)
+    (steps_ordered rows steps (nothing_in_order rows refl refl)) (generated_ordered size)
     (ap (λ (m : Automaton). m.states) alone) (ap (λ (m : Automaton). m.letters) alone)
     (λ p a q. has_steps rows steps p a q (rows_automaton size some) (steps_within size)))
 

@@ -4,7 +4,8 @@ use Rattle.std.specs.Prelude.{if◌then◌else◌}
 use Rattle.std.specs.List.{flat_map, range_with_len}
 use Rattle.std.proofs.lemmas.Bool.{eq-eqb, ne_eqb, cases_lt}
 use Rattle.language_theory.specs.Automaton.{steps_where, IsInOrder}
-use Rattle.language_theory.proofs.StepLists.{with_one_more, same_below, in_order_where}
+use Rattle.language_theory.proofs.StepLists.{with_one_more, same_below}
+use Rattle.automata.proofs.Steps.{plain_in_order}
 use Rattle.generated_file.specs.Generated.{next_state, steps_from, generated_automaton}
 use Rattle.generated_file.proofs.StepReading.{next_below}
 
@@ -54,4 +55,4 @@ steps_listed size = same_below (steps_from size) _ size (λ p h.
 pub generated_ordered : (size : ℕ) → IsInOrder (generated_automaton size)
 unfolding generated_automaton
 generated_ordered size =
-    in_order_where (generated_automaton size) (leads size) (steps_listed size)
+    plain_in_order (generated_automaton size) (leads size) (steps_listed size) refl

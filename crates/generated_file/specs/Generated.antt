@@ -68,6 +68,7 @@ generated_automaton size = record {
   initial = first_alone size;
   finals = first_alone size;
   steps = flat_map (steps_from size) (range_with_len 0 size);
+  moves = [];
 }
 
 -- the source of the file of a size
