@@ -1,0 +1,10 @@
+pub mod Gains
+pub mod StepsFrom
+pub mod FallingPaths
+pub mod Searching
+pub mod Finishing
+pub mod LeastOfHeight
+pub mod Descending
+pub mod ClassGraph
+pub mod Longest
+pub mod TrivialLabels
