@@ -1,34 +1,12 @@
 -- What a list gains, and the rows of a flat list.
-use Rattle.std.proofs.Common.{◌≡◌, ◌≢◌, ℕ, zero, suc, ◌+◌, ◌-◌, ◌<◌, ◌≤◌, ◌⊎◌, inl, inr}
+use Rattle.std.proofs.Common.{◌≡◌, ◌≢◌, ℕ, ◌+◌, ◌-◌, ◌<◌, ◌≤◌, ◌⊎◌, inl, inr}
 use Rattle.std.proofs.Common.{List, [], ◌∷◌, ◌++◌}
 use Rattle.std.proofs.Common.{length, slice_index, refl, sym, ap, subst, arith, ◌∙◌, append_assoc}
-use Rattle.std.proofs.Common.{append-nil}
 use Rattle.std.proofs.lemmas.List.{get_or_append_left, get_or-append-add, get_or-append_right}
 use Rattle.std.proofs.lemmas.List.{length-append, get_or_push}
 use Rattle.std.proofs.lemmas.Bool.{cases_lt, cases_eq}
 use Rattle.cayley_tables.specs.CayleyGraphs.{CayleyGraphs}
 use Rattle.simon_bound.specs.Steps.{Gains, IsRow, IsStepDown, AreSteps}
-
-pub gains_nothing : (has : ℕ → Type 0) (xs : List ℕ) → ((t : ℕ) → ¬ has t) → Gains has xs xs
-gains_nothing has xs none = record {
-  more = [];
-  joined = sym (append-nil xs);
-  each = λ p h. absurd (omega arith);
-  all = λ t h. absurd (none t h);
-}
-
-pub gains_one : (has : ℕ → Type 0) (xs : List ℕ) (y : ℕ) → has y → ((t : ℕ) → has t → t ≡ y)
-    → Gains has xs (xs ++ y ∷ [])
-gains_one has xs y h only = record {
-  more = y ∷ [];
-  joined = refl;
-  each = at;
-  all = λ t i. (0, omega arith, sym (only t i));
-}
-  where
-    at : (p : ℕ) → p < 1 → has (slice_index (y ∷ []) p)
-    at zero b = h
-    at (suc p) b = absurd (omega arith)
 
 pub gains_as : (P Q : ℕ → Type 0) (xs ys : List ℕ) → ((t : ℕ) → P t → Q t)
     → ((t : ℕ) → Q t → P t) → Gains P xs ys → Gains Q xs ys

@@ -136,7 +136,8 @@ module _ (c : CayleyGraphs) (h : AreCayleyGraphs c) (g : GreenClasses)
       falls = descent_falls;
     }
 
-    path_label : (i : ℕ) → i < length path → slice_index g.j (slice_index path i) ≡ slice_index path i
+    path_label : (i : ℕ) → i < length path
+        → slice_index g.j (slice_index path i) ≡ slice_index path i
     path_label i b = elim (cases_eq i 0) [
       | inl e ↦ subst (λ (z : ℕ). slice_index g.j z ≡ z)
           (sym (ap (λ (z : ℕ). slice_index path z) e ∙ p.first)) first_label

@@ -1,5 +1,6 @@
 -- What the search for heights keeps true.
-use Rattle.std.proofs.Common.{◌≡◌, ◌≢◌, ℕ, zero, suc, ◌+◌, ◌-◌, ◌*◌, ◌<◌, ◌≤◌, ◌⊎◌, inl, inr, List, []}
+use Rattle.std.proofs.Common.{◌≡◌, ◌≢◌, ℕ, zero, suc, ◌+◌, ◌-◌, ◌*◌, ◌<◌, ◌≤◌}
+use Rattle.std.proofs.Common.{◌⊎◌, inl, inr, List, []}
 use Rattle.std.proofs.Common.{◌∷◌, ◌++◌, length, slice_index, set, sum, refl, sym, ap}
 use Rattle.std.proofs.Common.{subst, arith, ◌∙◌}
 use Rattle.std.proofs.lemmas.List.{get_or_append_left, length-append, get_or_push, length-set}

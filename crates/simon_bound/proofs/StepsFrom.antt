@@ -60,9 +60,6 @@ members_next labels n i c lasts before h cn e = record {
         (sym (get_or_append_left before (slice_index lasts c ∷ []) 0 x (omega (arith, h.long))))
         (h.earlier x (omega arith))
 
-pub no_step : (g : CayleyGraphs) (labels : List ℕ) (x t : ℕ) → ¬ IsStep g labels 0 x t
-no_step g labels x t s = omega (arith, s.below)
-
 -- one letter more
 pub step_next : (g : CayleyGraphs) (labels : List ℕ) (b x u v own : ℕ) (xs ys zs ws : List ℕ)
     → u ≡ slice_index labels (target g.right x b) → v ≡ slice_index labels (target g.left x b)
@@ -120,12 +117,6 @@ step_next g labels b x u v own xs ys zs ws eu ev eo h f d =
           into = i;
           other = s.other;
         }))
-
--- above the last member there is none
-pub none_above : (g : CayleyGraphs) (labels : List ℕ) (n c r t : ℕ) → n ≡ length g.words
-    → IsLast labels n c r → ¬ IsStepDown g labels r c t
-none_above g labels n c r t e l s =
-    omega (arith, e, s.from, l.greatest s.member (omega (arith, e, s.within)) s.inside)
 
 -- one member more
 pub step_down_next : (g : CayleyGraphs) (labels : List ℕ) (c x r q : ℕ) (xs ys zs : List ℕ)

@@ -1,7 +1,8 @@
 -- Heights in a graph without cycles: the height of a node is the number of nodes on a longest path
 -- from it. Row c of the flat list `nodes`, from place `starts c` to before place `starts (c + 1)`,
 -- has the nodes to which the edges of the node c lead.
-use Rattle.std.specs.Prelude.{◌≡◌, ◌<◌, ◌≤◌, ◌+◌, ◌-◌, ◌*◌, ◌⊎◌, ℕ, List, length, slice_index, sum, min}
+use Rattle.std.specs.Prelude.{◌≡◌, ◌<◌, ◌≤◌, ◌+◌, ◌-◌, ◌*◌, ◌⊎◌, ℕ, List, length}
+use Rattle.std.specs.Prelude.{slice_index, sum, min}
 use Rattle.std.specs.List.{sum_by}
 use Rattle.cayley_tables.specs.declared.limits.TheConstants.{MOST_ELEMENTS}
 use Rattle.simon_bound.specs.declared.heights.Search.{Search}
@@ -49,9 +50,9 @@ abbrev pub IsNext : List ℕ → ℕ → ℕ → Type 0
 IsNext path c t = (k : ℕ) × (k + 1 < length path) × (slice_index path k ≡ c)
     × (slice_index path (k + 1) ≡ t)
 
--- The search has nodes on its path, which begins with node 0, that have no height yet. `cursors` has
--- the place of the next edge of each node; the edges before it lead to nodes with a height, or to
--- the next node of the path.
+-- The search has nodes on its path, which begins with node 0, that have no height yet. `cursors`
+-- has the place of the next edge of each node; the edges before it lead to nodes with a height, or
+-- to the next node of the path.
 pub record IsSearch (n : ℕ) (starts nodes cursors heights path : List ℕ) : Type 0 where
   pub right : AreHeights n starts nodes heights
   pub found : (c : ℕ) → c < n → slice_index heights c ≤ number_found heights

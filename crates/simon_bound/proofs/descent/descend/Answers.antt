@@ -18,9 +18,10 @@ least_of_height-class-requires-clause-some c =
     let inside : class < c.args.nodes =
     subst (λ (z : ℕ). z < c.args.nodes) c.loop-class.invariant.1
     (d.within (length path - 1) (omega (arith, d.some))) in
-    let tall : slice_index heights class ≡ g + 1 = omega (arith, c.loop-class-test.true) in
+    let high : 1 < slice_index heights class = omega (arith, c.loop-class-test.true) in
+    let tall : slice_index heights class ≡ g + 1 = omega (arith, high) in
     rw c.row.ensures (next_in_row c.args.nodes starts nodes heights c.requires.acyclic
-    c.requires.heights class g inside c.loop-class-test.true tall)
+    c.requires.heights class g inside high tall)
 
 pub loop-class-preserved : goal.loop-class-preserved
 loop-class-preserved c =

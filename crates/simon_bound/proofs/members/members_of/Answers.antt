@@ -1,4 +1,5 @@
-use Rattle.std.proofs.Common.{◌≡◌, ◌+◌, ◌<◌, ◌∷◌, [], ◌++◌, ℕ, List, length, slice_index, set, ap, sym, subst}
+use Rattle.std.proofs.Common.{◌≡◌, ◌+◌, ◌<◌, ◌∷◌, [], ◌++◌, ℕ, List, length}
+use Rattle.std.proofs.Common.{slice_index, set, ap, sym, subst}
 use Rattle.std.proofs.Common.{arith, ◌∙◌}
 use Rattle.std.proofs.lemmas.Grind.{common_steps}
 use Rattle.simon_bound.specs.MemberLists.{AreMemberLists}
@@ -25,6 +26,7 @@ loop-element-preserved c =
     let read : c.index.result.now ≡ slice_index lasts label = grind (arith, common_steps) in
     let pushed : c.push.new.self.items ≡ before ++ slice_index lasts label ∷ [] =
     c.in_ok-push.ensures.items ∙ ap (λ (v : ℕ). before ++ v ∷ []) read in
-    subst (λ (ys : List ℕ). AreMemberLists labels size (element + 1) (set lasts label (element + 1)) ys)
+    subst (λ (ys : List ℕ). AreMemberLists labels size (element + 1)
+    (set lasts label (element + 1)) ys)
     (sym pushed) (members_next labels size element label lasts before c.loop-element.invariant here
     c.j_class-label.ensures)
