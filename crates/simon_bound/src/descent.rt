@@ -1,5 +1,5 @@
 //! The least longest way down from the class of element 0.
-ghost use Rattle.std.specs.Prelude.{◌≡◌, ◌<◌, ◌≤◌, ◌+◌, ◌^◌, ℕ, length, slice_index, IfOk};
+ghost use Rattle.std.specs.Prelude.{◌≡◌, ◌<◌, ◌^◌, ℕ, length, slice_index, IfOk};
 ghost use Rattle.simon_bound.specs.Heights.{IsAcyclic, AreHeights, IsDescent, IsLeastOf};
 
 use crate::steps::Steps;
