@@ -18,6 +18,8 @@ mod parallel_table_tests;
 #[cfg(test)]
 mod presentation_tests;
 #[cfg(test)]
+mod simon_bound_tests;
+#[cfg(test)]
 mod syntactic_monoid_tests;
 #[cfg(test)]
 mod worked;
