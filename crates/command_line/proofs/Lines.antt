@@ -23,9 +23,10 @@ named word = cond (bytes_eq word (codes "monoid")) command.Monoid
     (cond (bytes_eq word (codes "local")) command.Local
     (cond (bytes_eq word (codes "rtrivial")) command.RTrivial
     (cond (bytes_eq word (codes "commutative")) command.Commutative
+    (cond (bytes_eq word (codes "bound")) command.Bound
     (cond (bytes_eq word (codes "table")) command.Table
     (cond (bytes_eq word (codes "report")) command.Report
-    (cond (bytes_eq word (codes "generate")) command.Generate command.Automaton)))))))))
+    (cond (bytes_eq word (codes "generate")) command.Generate command.Automaton))))))))))
 
 named-word : (c : Command) → named (command_word c) ≡ c
 unfolding named

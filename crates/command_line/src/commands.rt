@@ -21,9 +21,11 @@ pub enum Command {
     RTrivial,
     /// Whether the syntactic monoid is commutative.
     Commutative,
+    /// A longest chain of ideals of the syntactic monoid, and the level that it bounds.
+    Bound,
     /// The products of all elements.
     Table,
-    /// All sections but the table.
+    /// All sections but the bound and the table.
     Report,
     /// The numbers and the answers for the generated file of a size.
     Generate,
@@ -43,6 +45,7 @@ pub(crate) fn command_of(word: &str) -> Option<Command>
         "local" => Some(Command::Local),
         "rtrivial" => Some(Command::RTrivial),
         "commutative" => Some(Command::Commutative),
+        "bound" => Some(Command::Bound),
         "table" => Some(Command::Table),
         "report" => Some(Command::Report),
         "generate" => Some(Command::Generate),

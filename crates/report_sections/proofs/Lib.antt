@@ -6,5 +6,6 @@ pub mod Rules
 pub mod Recognised
 pub mod Locals
 pub mod Truths
+pub mod Bounds
 pub mod SectionLaws
 pub mod CommandNeeds

@@ -24,6 +24,7 @@ use Rattle.piecewise_testable.specs.Witness.{IsRTrivialAnswer}
 use Rattle.piecewise_testable.specs.Commuting.{IsCommutativeAnswer}
 use Rattle.piecewise_testable.proofs.Agreeing.{answer_on_agrees, commutative_answer_agrees}
 use Rattle.piecewise_testable.proofs.Answering.{piecewise_answer_agrees, always_apart}
+use Rattle.piecewise_testable.proofs.Simon.{bounded_by_simon}
 use Rattle.piecewise_testable.proofs.ToldApart.{found_apart}
 use Rattle.answers.specs.declared.powers.SfAnswer.{SfAnswer}
 use Rattle.star_free.specs.Answer.{IsStarFreeAnswer, Tells}
@@ -71,7 +72,11 @@ module _ (k : ℕ) (L : List ℕ → Type 0) (m : SyntacticMonoid) (is : IsSynta
   piecewise_answers limits a h =
       let found = of_recognised (λ n M. IsPiecewiseAnswer n M limits.pairs limits.level a)
       (λ same. piecewise_answer_agrees k (recognised m) L same limits.pairs limits.level a) h in
-      record { answered = found; tells = always_apart k L limits.pairs limits.level a found }
+      record {
+        answered = found;
+        tells = always_apart k L limits.pairs limits.level a found;
+        simon = λ words l. bounded_by_simon k L words limits.pairs limits.level a l found;
+      }
 
   pub r_trivial_answers : (limits : Limits) (a : Option PtWitness)
       → IsRTrivialAnswer m.graphs.right.letters (recognised m) a → AnswersRTrivial limits k L a

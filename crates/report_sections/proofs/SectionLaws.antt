@@ -18,8 +18,9 @@ use Rattle.piecewise_testable.proofs.OneAnswer.{one_piecewise_answer, one_r_triv
 use Rattle.command_line.specs.declared.commands.Command.{Command}
 use Rattle.command_line.specs.declared.commands.Command.TheVariants as command
 use Rattle.report_sections.specs.Limits.{Limits}
-use Rattle.report_sections.specs.RightAnswers.{Presented, Diagram, Counted, AnswersMonoid, AnswersGreen, AnswersStarFree, AnswersPiecewise, AnswersLocal, AnswersRTrivial, AnswersTable, AnswersAll, AnswersSummary, AreCounts, AreBoxesFor, IsTableWithin}
+use Rattle.report_sections.specs.RightAnswers.{Presented, Diagram, Bounded, Counted, AnswersMonoid, AnswersGreen, AnswersBound, AnswersStarFree, AnswersPiecewise, AnswersLocal, AnswersRTrivial, AnswersTable, AnswersAll, AnswersSummary, AreCounts, AreBoxesFor, IsTableWithin}
 use Rattle.report_sections.specs.Sections.{Said, Telling, TellsAnswer, TellsTruth, TellsWhere, is_section, telling_of, joined, IsSection, AreSections, AreSaid}
+use Rattle.report_sections.proofs.Bounds.{one_bounded, bound_true}
 use Rattle.report_sections.proofs.Rules.{rules_are_one_too}
 use Rattle.report_sections.proofs.Locals.{one_answer_of_tables}
 use Rattle.report_sections.proofs.StarFreeLists.{one_answer_of_lists}
@@ -228,6 +229,10 @@ laws_of command.Commutative limits signs L = record {
   one = say_one (telling_of command.Commutative limits signs L)
       (one_commutative_answer (length signs) L);
   holds = order_true (length signs) L;
+}
+laws_of command.Bound limits signs L = record {
+  one = say_one (telling_of command.Bound limits signs L) (one_bounded (length signs) L);
+  holds = bound_true (length signs) L;
 }
 laws_of command.Table limits signs L =
     record { one = one_table limits signs L; holds = table_true (length signs) L limits }

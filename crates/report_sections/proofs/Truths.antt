@@ -1,5 +1,5 @@
 -- Right answers are true in the words of the field.
-use Rattle.std.proofs.Common.{◌≡◌, ◌≤◌, ◌↔◌, ℕ, Bool, true, false, IsTrue, List, Option, Some, None, inl, inr, sym, ◌∙◌, length, arith}
+use Rattle.std.proofs.Common.{◌≡◌, ◌≤◌, ◌↔◌, ℕ, Bool, true, false, IsTrue, List, Option, Some, None, inl, inr, refl, ◌-◌, ◌*◌, sym, ◌∙◌, length, arith}
 use Rattle.std.proofs.lemmas.Bool.{cases_lt}
 use Rattle.language_theory.specs.Congruence.{Syntactic}
 use Rattle.language_theory.proofs.Congruences.{syntactic_congruence}
@@ -15,6 +15,7 @@ use Rattle.answers.specs.declared.commuting.CWitness.{CWitness}
 use Rattle.piecewise_testable.specs.Answers.{IsPiecewiseAnswer}
 use Rattle.piecewise_testable.specs.Witness.{IsRTrivialAnswer}
 use Rattle.piecewise_testable.specs.Commuting.{IsCommutativeAnswer}
+use Rattle.piecewise_testable.proofs.Simon.{bounded_by_simon}
 use Rattle.piecewise_testable.proofs.ToldApart.{told_apart}
 use Rattle.answers.specs.declared.factors.LtAnswer.{LtAnswer}
 use Rattle.answers.specs.declared.factors.LtAnswer.TheVariants as locally
@@ -23,7 +24,7 @@ use Rattle.green_relations.proofs.CellSizes.{egg_boxes_have_one_size}
 use Rattle.parallel_table.specs.ProductTables.{ProductTable}
 use Rattle.report_sections.specs.Limits.{Limits}
 use Rattle.report_sections.specs.RightAnswers.{Presented, Diagram, Counted, AnswersMonoid, AnswersGreen, AnswersStarFree, AnswersLocal, AnswersTable, AnswersSummary}
-use Rattle.report_sections.specs.TrueAnswers.{HasMoreElementsThan, IsTrueOfMonoid, IsTrueOfGreen, IsTrueOfTable, IsTrueOfPowers, IsTrueOfSubwords, IsTrueOfFactors, IsTrueOfRows, IsTrueOfOrder, IsTrueOfSummary}
+use Rattle.report_sections.specs.TrueAnswers.{HasMoreElementsThan, IsTrueOfMonoid, IsTrueOfGreen, IsTrueOfTable, IsTrueOfPowers, IsTrueOfSubwords, IsBelowSimonsLevel, IsTrueOfFactors, IsTrueOfRows, IsTrueOfOrder, IsTrueOfSummary}
 
 module _ (k : ℕ) (L : List ℕ → Type 0) where
   above_table : (m : SyntacticMonoid) → IsSyntacticMonoid k L m → (has : Bool) (most : ℕ)
@@ -46,6 +47,18 @@ module _ (k : ℕ) (L : List ℕ → Type 0) where
   powers_true limits m star_free.Depth has is table h t = ((m, is, h.2), t)
   powers_true limits m star_free.Nodes has is table h t = ((m, is, h.2), t)
 
+  -- where no level up to the last suffices, the last is below Simon's
+  below_simons_level : (limits : Limits) (n : ℕ)
+      → IsPiecewiseAnswer k L limits.pairs limits.level (piecewise.NoneTo n)
+      → IsBelowSimonsLevel k L limits.level
+  below_simons_level limits n h words chain l longest =
+      elim (cases_lt limits.level (2 * length chain - 1)) [
+        | inl less ↦ less
+        | inr high ↦ absurd
+            (bounded_by_simon k L words limits.pairs limits.level (piecewise.NoneTo n) l h chain
+            longest h.0 high n refl)
+      ]
+
   pub subwords_true : (limits : Limits) (a : PtAnswer)
       → IsPiecewiseAnswer k L limits.pairs limits.level a
       → IsTrueOfSubwords limits k L a
@@ -55,7 +68,11 @@ module _ (k : ℕ) (L : List ℕ → Type 0) where
   subwords_true limits (piecewise.Wide n) h = (h.1.1, λ m f l. (h.1.0.before m f l).fails)
   subwords_true limits (piecewise.Pairs n) h =
       (h.1.1.many, λ m f l. (h.1.0.before m f l).fails)
-  subwords_true limits (piecewise.NoneTo n) h = (h.1.0, λ m f l. (h.1.1 m f l).fails)
+  subwords_true limits (piecewise.NoneTo n) h = (
+    h.1.0,
+    λ m f l. (h.1.1 m f l).fails,
+    below_simons_level limits n h,
+  )
 
   factors_true : (limits : Limits) (m : SyntacticMonoid) (a : LtAnswer) (has : Bool)
       → IsSyntacticMonoid k L m → IsTrue has ↔ (length m.graphs.words ≤ limits.table)

@@ -21,6 +21,7 @@ use Rattle.report_text.specs.StarFreeSection.{IsStarFreeOver, star_free_text, is
 use Rattle.report_text.specs.PiecewiseSection.{IsPiecewiseOver, IsRTrivialOver, piecewise_text, is_piecewise_limit, r_trivial_text}
 use Rattle.report_text.specs.LocalSection.{IsLocalOver, local_text, is_local_limit}
 use Rattle.report_text.specs.CommutativeSection.{IsCommutativeOver, commutative_text}
+use Rattle.report_text.specs.BoundSection.{IsChainToSay, bound_text}
 use Rattle.report_text.specs.TableSection.{section_text}
 use Rattle.command_line.specs.declared.commands.Command.{Command}
 use Rattle.report_sections.specs.Limits.{Limits, limits_of}
@@ -149,6 +150,11 @@ saying_of (answer.Commutative a) = record {
   text = λ signs limits. commutative_text signs a;
   limited = false;
   Fits = λ signs. IsCommutativeOver (length signs) a;
+}
+saying_of (answer.Bound m chain trivial) = record {
+  text = λ signs limits. bound_text signs m.now.graphs.words chain trivial;
+  limited = false;
+  Fits = λ signs. IsChainToSay signs m.now.graphs chain;
 }
 saying_of (answer.Table t) = record {
   text = λ signs limits. section_text (Some t.now) limits.table;

@@ -3,10 +3,12 @@ use Rattle.std.specs.Prelude.{◌||◌, ◌≡◌, ◌<◌, ◌≤◌, ℕ, Bool
 use Rattle.language_theory.specs.Words.{word_at}
 use Rattle.language_theory.specs.Automaton.{is_marked}
 use Rattle.language_theory.specs.Congruence.{Syntactic}
+use Rattle.language_theory.specs.Representatives.{AreRepresentatives}
 use Rattle.language_theory.specs.Nerode.{MinimalAutomaton, IsMinimal}
 use Rattle.monoid_theory.specs.Presentation.{AreRules}
 use Rattle.monoid_theory.specs.Products.{IsProduct}
-use Rattle.monoid_theory.specs.Green.{IsIdempotent}
+use Rattle.monoid_theory.specs.Green.{IsIdempotent, IsJTrivial}
+use Rattle.green_relations.specs.Chains.{IsLongestChain}
 use Rattle.green_relations.specs.EggBoxes.{AreEggBoxes}
 use Rattle.parallel_table.specs.ProductTables.{ProductTable, cell}
 use Rattle.syntactic_monoid.specs.SyntacticMonoid.{SyntacticMonoid, IsSyntacticMonoid}
@@ -22,7 +24,7 @@ use Rattle.answers.specs.declared.factors.LtAnswer.{LtAnswer}
 use Rattle.locally_testable.specs.Answer.{IsLocalAnswer, Tells as TellsLocal}
 use Rattle.answers.specs.declared.subwords.PtAnswer.{PtAnswer}
 use Rattle.answers.specs.declared.subwords.PtWitness.{PtWitness}
-use Rattle.piecewise_testable.specs.Answers.{IsPiecewiseAnswer, IsToldApart, IsAlwaysToldApart}
+use Rattle.piecewise_testable.specs.Answers.{IsPiecewiseAnswer, IsToldApart, IsAlwaysToldApart, IsBoundedBySimon}
 use Rattle.piecewise_testable.specs.Witness.{IsRTrivialAnswer}
 use Rattle.piecewise_testable.specs.Commuting.{IsCommutativeAnswer}
 use Rattle.report_sections.specs.Limits.{Limits}
@@ -37,6 +39,12 @@ pub record Diagram : Type 0 where
   pub monoid : SyntacticMonoid
   pub idempotents : List Bool
   pub boxes : List (List (List (List ℕ)))
+
+-- a monoid, a chain of its elements, and whether it is J-trivial
+pub record Bounded : Type 0 where
+  pub monoid : SyntacticMonoid
+  pub chain : List ℕ
+  pub trivial : Bool
 
 -- counts of a language, and five answers
 pub record Counted : Type 0 where
@@ -78,6 +86,12 @@ module _ (k : ℕ) (L : List ℕ → Type 0) where
     pub diagram : AreBoxesFor k (Syntactic k L) answer.monoid.graphs.words answer.idempotents
         answer.boxes
 
+  -- the longest chain of ideals of the syntactic monoid, and whether it is J-trivial
+  pub record AnswersBound (answer : Bounded) : Type 0 where
+    pub syntactic : IsSyntacticMonoid k L answer.monoid
+    pub longest : IsLongestChain k (Syntactic k L) answer.monoid.graphs.words answer.chain
+    pub trivial : IsTrue answer.trivial ↔ IsJTrivial k (Syntactic k L)
+
 -- What is answered of it within the limits.
 module _ (limits : Limits) (k : ℕ) (L : List ℕ → Type 0) where
   -- a star-free list of the language, words whose powers never settle, or the limit that was met; a
@@ -91,10 +105,12 @@ module _ (limits : Limits) (k : ℕ) (L : List ℕ → Type 0) where
     pub tells : TellsStarFree k L answer
 
   -- the least length of subwords that tells the language, words that are told apart at every length,
-  -- or the limit that was met
+  -- or the limit that was met; the last level is none where it is at least Simon's
   pub record AnswersPiecewise (answer : PtAnswer) : Type 0 where
     pub answered : IsPiecewiseAnswer k L limits.pairs limits.level answer
     pub tells : IsAlwaysToldApart L answer
+    pub simon : (words : List (List ℕ)) → AreRepresentatives k (Syntactic k L) words
+        → IsBoundedBySimon k L words limits.level answer
 
   -- the least level of factors that tells the language, words that are told apart at every level, or
   -- the limit that was met; a table of products is there where there are no more elements than its

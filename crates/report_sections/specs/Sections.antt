@@ -13,6 +13,7 @@ use Rattle.report_text.specs.StarFreeSection.{star_free_text, is_star_free_limit
 use Rattle.report_text.specs.PiecewiseSection.{piecewise_text, is_piecewise_limit, r_trivial_text}
 use Rattle.report_text.specs.LocalSection.{local_text, is_local_limit}
 use Rattle.report_text.specs.CommutativeSection.{commutative_text}
+use Rattle.report_text.specs.BoundSection.{bound_text}
 use Rattle.report_text.specs.TableSection.{section_text}
 use Rattle.answers.specs.declared.powers.SfAnswer.{SfAnswer}
 use Rattle.answers.specs.declared.factors.LtAnswer.{LtAnswer}
@@ -21,8 +22,8 @@ use Rattle.answers.specs.declared.subwords.PtWitness.{PtWitness}
 use Rattle.answers.specs.declared.commuting.CWitness.{CWitness}
 use Rattle.piecewise_testable.specs.Commuting.{IsCommutativeAnswer}
 use Rattle.report_sections.specs.Limits.{Limits}
-use Rattle.report_sections.specs.RightAnswers.{Presented, Diagram, Counted, AnswersMonoid, AnswersGreen, AnswersStarFree, AnswersPiecewise, AnswersLocal, AnswersRTrivial, AnswersTable, AnswersSummary, is_summary_limit}
-use Rattle.report_sections.specs.TrueAnswers.{IsTrueOfMonoid, IsTrueOfGreen, IsTrueOfTable, IsTrueOfPowers, IsTrueOfSubwords, IsTrueOfFactors, IsTrueOfRows, IsTrueOfOrder, IsTrueOfSummary}
+use Rattle.report_sections.specs.RightAnswers.{Presented, Diagram, Bounded, Counted, AnswersMonoid, AnswersGreen, AnswersBound, AnswersStarFree, AnswersPiecewise, AnswersLocal, AnswersRTrivial, AnswersTable, AnswersSummary, is_summary_limit}
+use Rattle.report_sections.specs.TrueAnswers.{IsTrueOfMonoid, IsTrueOfGreen, IsTrueOfBound, IsTrueOfTable, IsTrueOfPowers, IsTrueOfSubwords, IsTrueOfFactors, IsTrueOfRows, IsTrueOfOrder, IsTrueOfSummary}
 use Rattle.report_sections.specs.declared.sections.Needs.{Needs}
 
 -- The sections that a command prints, in their order. A section is named by the command that prints
@@ -151,6 +152,16 @@ row_of command.Commutative = record {
     IsRight = IsCommutativeAnswer (length signs) L;
     Meaning = IsTrueOfOrder (length signs) L;
     text = commutative_text signs;
+    limited = never;
+  };
+}
+row_of command.Bound = record {
+  needs = greens_classes;
+  telling = λ limits signs L. record {
+    Answer = Bounded;
+    IsRight = AnswersBound (length signs) L;
+    Meaning = IsTrueOfBound (length signs) L;
+    text = λ a. bound_text signs a.monoid.graphs.words a.chain a.trivial;
     limited = never;
   };
 }

@@ -1,13 +1,14 @@
 -- What the answers of the sections tell of a language, in the words of the field.
-use Rattle.std.specs.Prelude.{◌≡◌, ◌<◌, ◌≤◌, ◌+◌, ◌++◌, ◌↔◌, ℕ, IsTrue, List, [], ◌∷◌, length, Option, Some, None}
+use Rattle.std.specs.Prelude.{◌≡◌, ◌<◌, ◌≤◌, ◌+◌, ◌-◌, ◌*◌, ◌++◌, ◌↔◌, ℕ, Bool, true, false, IsTrue, List, [], ◌∷◌, length, Option, Some, None}
 use Rattle.language_theory.specs.Words.{power}
 use Rattle.language_theory.specs.Congruence.{Syntactic}
 use Rattle.language_theory.specs.Languages.{HaveSameWords}
 use Rattle.language_theory.specs.Representatives.{AreRepresentatives, HasMoreClasses}
-use Rattle.monoid_theory.specs.Green.{IsRTrivial}
+use Rattle.monoid_theory.specs.Green.{IsRTrivial, IsJTrivial}
 use Rattle.monoid_theory.specs.Powers.{NeverSettle}
 use Rattle.monoid_theory.specs.Presentation.{AreRules}
 use Rattle.monoid_theory.specs.Separation.{Separates}
+use Rattle.green_relations.specs.Chains.{IsLongestChain}
 use Rattle.green_relations.specs.EggBoxes.{box_at, row_at, cell_at}
 use Rattle.parallel_table.specs.ProductTables.{ProductTable}
 use Rattle.syntactic_monoid.specs.SyntacticMonoid.{SyntacticMonoid, IsSyntacticMonoid}
@@ -32,7 +33,7 @@ use Rattle.factor_keys.specs.Keys.{SameKey, width as factor_width}
 use Rattle.locally_testable.specs.Answer.{IsLeastLevel, HasMuchWork}
 use Rattle.locally_testable.specs.Witness.{ShowsNotTestable}
 use Rattle.report_sections.specs.Limits.{Limits}
-use Rattle.report_sections.specs.RightAnswers.{Presented, Diagram, Counted, AreBoxesFor, IsTableWithin, AreCounts}
+use Rattle.report_sections.specs.RightAnswers.{Presented, Diagram, Bounded, Counted, AreBoxesFor, IsTableWithin, AreCounts}
 
 -- all cells of a box have as many elements as its first one, whose number is printed
 abbrev pub HaveOneSize : List (List (List (List ℕ))) → Type 0
@@ -67,6 +68,12 @@ module _ (k : ℕ) (L : List ℕ → Type 0) where
   abbrev pub NoneBelow : (ℕ → List ℕ → List ℕ → Type 0) → (first n : ℕ) → Type 0
   NoneBelow same first n = (m : ℕ) → first ≤ m → m < n → ¬ Suffices k L (same m)
 
+  -- the level is less than that which the longest chain of ideals bounds (Simon 1975)
+  abbrev pub IsBelowSimonsLevel : ℕ → Type 0
+  IsBelowSimonsLevel n = (words : List (List ℕ)) (chain : List ℕ)
+      → AreRepresentatives k (Syntactic k L) words
+      → IsLongestChain k (Syntactic k L) words chain → n < 2 * length chain - 1
+
   -- R-trivial yes, or words that are told apart at every level
   abbrev pub IsTrueOfRows : Option PtWitness → Type 0
   IsTrueOfRows None = IsRTrivial k (Syntactic k L)
@@ -77,6 +84,18 @@ module _ (k : ℕ) (L : List ℕ → Type 0) where
   IsTrueOfOrder None = IsCommutative k (Syntactic k L)
   IsTrueOfOrder (Some w) = Separates L (w.a ∷ w.b ∷ []) (w.b ∷ w.a ∷ []) w.u w.v
       × (IsTrue w.first_in ↔ L (w.u ++ ((w.a ∷ w.b ∷ []) ++ w.v)))
+
+  -- Where the monoid is J-trivial, a level suffices; where it is not, none does (Simon 1975).
+  abbrev pub IsTrueOfLevel : Bool → ℕ → Type 0
+  IsTrueOfLevel true n = IsJTrivial k (Syntactic k L) × Suffices k L (SameSubwords n)
+  IsTrueOfLevel false n = (m : ℕ) → ¬ Suffices k L (SameSubwords m)
+
+  -- the words are a chain of ideals, no chain is longer, and of those as long it is the least; the
+  -- level that it bounds suffices, or no level does
+  pub record IsTrueOfBound (answer : Bounded) : Type 0 where
+    pub elements : AreRepresentatives k (Syntactic k L) answer.monoid.graphs.words
+    pub longest : IsLongestChain k (Syntactic k L) answer.monoid.graphs.words answer.chain
+    pub level : IsTrueOfLevel answer.trivial (2 * length answer.chain - 1)
 
 -- Of the same, within the limits.
 module _ (limits : Limits) (k : ℕ) (L : List ℕ → Type 0) where
@@ -117,6 +136,7 @@ module _ (limits : Limits) (k : ℕ) (L : List ℕ → Type 0) where
       × NoneBelow k L (λ m. SameSubwords m) 0 n
   IsTrueOfSubwords (piecewise.NoneTo n) = (n ≡ limits.level)
       × NoneBelow k L (λ m. SameSubwords m) 0 (limits.level + 1)
+      × IsBelowSimonsLevel k L limits.level
 
   -- the same of local testability; and the local work is above its limit
   abbrev pub IsTrueOfFactors : LtAnswer → Type 0

@@ -20,6 +20,7 @@ use green_relations::{Boxes, Green, boxes_of};
 use parallel_table::Table;
 use presentation::{Rules, rules_of};
 use report_text::{Counts, Summary};
+use simon_bound::{JChain, j_trivial, longest_chain};
 use std::alloc::Global;
 use subset_minimal::MinDfa;
 use syn_words::Memory;
@@ -99,6 +100,8 @@ pub enum Answer<'a> {
     RTrivial(Option<PtWitness>),
     /// Letters that show that the syntactic monoid is not commutative, if there are any.
     Commutative(Option<CWitness>),
+    /// The syntactic monoid, a longest chain of its ideals, and whether it is J-trivial.
+    Bound(&'a Syntactic, JChain, bool),
     /// The products of all elements.
     Table(&'a Table),
     /// That there are more elements than the limit of the table.
@@ -176,6 +179,7 @@ fn answer_section<'a>(
         Command::Local => Ok(Answer::Local(answer_local(alloc, values)?)),
         Command::RTrivial => Ok(Answer::RTrivial(answer_r_trivial(alloc, values)?)),
         Command::Commutative => Ok(Answer::Commutative(answer_commutative(alloc, values)?)),
+        Command::Bound => answer_bound(alloc, values),
         Command::Table => Ok(answer_table(values)),
         Command::Generate => {
             let counts = counts_of(alloc, values)?;
@@ -214,6 +218,23 @@ fn answer_green<'a>(alloc: Global, values: &Values<'a, '_>) -> Result<Answer<'a>
     let (monoid, green) = values.classes();
     let boxes = boxes_of(alloc, green)?;
     Ok(Answer::Green(monoid, green, boxes))
+}
+
+/// The answer of the section `bound`. Conditions: the values are those of the source's language, and the monoid and its
+/// classes are there.
+fn answer_bound<'a>(alloc: Global, values: &Values<'a, '_>) -> Result<Answer<'a>, Memory>
+    requires values { AreValues (values_of values.now) }
+    requires needs { HasGreen (values_of values.now) }
+    ensures sayable { IfOk result (IsSayable (values_of values.now).source.letters) }
+    ensures said { IfOk result (λ answer. IsSection command.Bound (values_of values.now).limits
+        (values_of values.now).source.letters (language_of (values_of values.now).source)
+        (said_of (values_of values.now).source.letters (values_of values.now).limits answer)) }
+{
+    let (monoid, green) = values.classes();
+    let cayley = monoid.cayley();
+    let chain = longest_chain(alloc, cayley, green)?;
+    let trivial = j_trivial(cayley, green);
+    Ok(Answer::Bound(monoid, chain, trivial))
 }
 
 /// The answer of the section `table`. Conditions: the values are those of the source's language, and the monoid is

@@ -7,7 +7,7 @@ ghost use Rattle.report_sections.specs.Answers.{IsSayable, text_of, said_of_all}
 use crate::answering::Answer;
 use command_line::Request;
 use report_text::{
-    Buffer, SayFault, say_automaton, say_commutative, say_green, say_local, say_monoid,
+    Buffer, SayFault, say_automaton, say_bound, say_commutative, say_green, say_local, say_monoid,
     say_piecewise, say_r_trivial, say_star_free, say_summary, say_table,
 };
 use std::alloc::Global;
@@ -67,6 +67,17 @@ fn say_answer<S: Sink>(
         Answer::Local(answer) => say_local(alloc, sink, buffer, alphabet, answer, table),
         Answer::RTrivial(answer) => say_r_trivial(alloc, sink, buffer, alphabet, answer),
         Answer::Commutative(answer) => say_commutative(alloc, sink, buffer, alphabet, answer),
+        Answer::Bound(monoid, chain, trivial) => {
+            say_bound(
+                alloc,
+                sink,
+                buffer,
+                alphabet,
+                monoid.cayley(),
+                chain,
+                *trivial,
+            )
+        }
         Answer::Table(products) => say_table(alloc, sink, buffer, Some(*products), table),
         Answer::TableLimit => say_table(alloc, sink, buffer, None, table),
         Answer::Summary(counts, answers) => {

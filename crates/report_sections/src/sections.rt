@@ -35,7 +35,9 @@ pub fn needs_of(section: Command) -> Needs
     let (elements, green, table) = match section {
         Command::Automaton | Command::Report => (false, false, false),
         Command::Monoid | Command::Commutative => (true, false, false),
-        Command::Green | Command::Piecewise | Command::RTrivial => (true, true, false),
+        Command::Green | Command::Piecewise | Command::RTrivial | Command::Bound => {
+            (true, true, false)
+        }
         Command::StarFree | Command::Local | Command::Table => (true, false, true),
         Command::Generate => (true, true, true),
     };

@@ -1,4 +1,5 @@
 pub mod AutomatonSection
+pub mod BoundSection
 pub mod MonoidSection
 pub mod StarFreeSection
 pub mod TableSection

@@ -2,6 +2,7 @@
 #![tactic(auto)]
 
 mod automaton_section;
+mod bound_section;
 mod commutative_section;
 mod green_section;
 mod lines;
@@ -13,6 +14,7 @@ mod summary_section;
 mod table_section;
 
 pub use automaton_section::say_automaton;
+pub use bound_section::say_bound;
 pub use commutative_section::say_commutative;
 pub use green_section::{idempotents_of, say_green};
 pub use local_section::say_local;

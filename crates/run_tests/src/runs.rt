@@ -24,7 +24,7 @@ const AB_STAR_GREEN: &str =
 const AB_STAR_LIST: &str =
     "starfree yes\nnodes 24\n0 none\n1 not 0\n2 eps\n3 letter a\n4 letter b\n5 cat 1 3\n6 cat 5 1\n7 not 6\n8 cat 7 4\n9 cat 8 4\n10 cat 3 1\n11 or 10 2\n12 cat 3 4\n13 cat 3 9\n14 cat 11 3\n15 cat 14 11\n16 not 15\n17 and 11 16\n18 cat 17 13\n19 cat 18 17\n20 not 19\n21 and 17 20\n22 cat 21 12\n23 or 2 22\nroot 23\n";
 
-/// All sections but the table.
+/// The sections of `report`.
 const AB_STAR_REPORT: &str =
     "automaton\nalphabet ab\nstates 3\n0 1 in 1 2\n1 a out 2 0\n2 b out 2 2\nmonoid\nelements 6\n0 1 in right 1 2 left 1 2\n1 a out right 3 4 left 3 5\n2 b out right 5 3 left 4 3\n3 aa out right 3 3 left 3 3\n4 ab in right 1 3 left 3 2\n5 ba out right 3 2 left 1 3\nrules 6\nbb aa\naaa aa\naab aa\naba a\nbaa aa\nbab b\ngreen\nboxes 3\nbox 0 rows 1 columns 1 size 1\n1*\nbox 1 rows 2 columns 2 size 1\na | ab*\nba* | b\nbox 2 rows 1 columns 1 size 1\naa*\nidempotents 4\nstarfree yes\nnodes 24\n0 none\n1 not 0\n2 eps\n3 letter a\n4 letter b\n5 cat 1 3\n6 cat 5 1\n7 not 6\n8 cat 7 4\n9 cat 8 4\n10 cat 3 1\n11 or 10 2\n12 cat 3 4\n13 cat 3 9\n14 cat 11 3\n15 cat 14 11\n16 not 15\n17 and 11 16\n18 cat 17 13\n19 cat 18 17\n20 not 19\n21 and 17 20\n22 cat 21 12\n23 or 2 22\nroot 23\npiecewise no right\nu 1\ns a\nletter b\ny a\nv 1\nfirst out\nlocal yes 2\nrtrivial no\nu 1\ns a\nletter b\ny a\nv 1\nfirst out\ncommutative no\nletters a b\nu 1\nv 1\nfirst in\n";
 
@@ -46,6 +46,15 @@ const EVEN_AS_MONOID: &str =
 
 /// No word, by a final state that no word leads to.
 const NO_WORD: &str = "synmon 1\nalphabet a\nnfa 2\ninitial 1\nfinal 0\n0 a 1\n1 a 1\n";
+
+/// The words with a subword ab.
+const A_BEFORE_B: &str = "synmon 1\nalphabet ab\nexpr (a|b)*a(a|b)*b(a|b)*\n";
+
+/// No word over two letters.
+const NO_WORD_OF_TWO: &str = "synmon 1\nalphabet ab\nexpr 0\n";
+
+/// The empty word alone.
+const EMPTY_WORD: &str = "synmon 1\nalphabet a\nexpr 1\n";
 
 /// The language `(ab)*` by two initial states, of which words lead to five sets of states.
 const FIVE_SETS: &str =
@@ -121,7 +130,7 @@ const STOPPED: Row = Row {
 };
 
 /// Runs that write the whole text.
-const TEXTS: [Row; 30] = [
+const TEXTS: [Row; 35] = [
     Row {
         words: &["starfree", "--nodes", "60", "name"],
         out: AB_STAR_LIST,
@@ -179,6 +188,35 @@ const TEXTS: [Row; 30] = [
         words: &["commutative", "name"],
         file: EVEN_AS,
         out: "commutative yes\n",
+        ..GOOD
+    },
+    Row {
+        words: &["bound", "name"],
+        out: "bound\nchain 3\n1\na\naa\nlevel none\n",
+        ..GOOD
+    },
+    Row {
+        words: &["bound", "name"],
+        file: A_BEFORE_B,
+        out: "bound\nchain 4\n1\na\nba\nab\nlevel 7\n",
+        ..GOOD
+    },
+    Row {
+        words: &["piecewise", "--level", "7", "name"],
+        file: A_BEFORE_B,
+        out: "piecewise yes 2\n",
+        ..GOOD
+    },
+    Row {
+        words: &["bound", "name"],
+        file: NO_WORD_OF_TWO,
+        out: "bound\nchain 1\n1\nlevel 1\n",
+        ..GOOD
+    },
+    Row {
+        words: &["bound", "name"],
+        file: EMPTY_WORD,
+        out: "bound\nchain 2\n1\na\nlevel 3\n",
         ..GOOD
     },
     Row {
